@@ -1,0 +1,127 @@
+-- The smallest value of each format, and each of them with one thing changed, by computation. Assumes nothing.
+use Prim.Native.Nat.{ℕ}
+use mathlib.Core.Path.{_≡_, refl}
+use mathlib.Core.List.{List, [], _∷_, _++_}
+use lib.Count.{ones}
+use lib.ListN.{length, set, take}
+use Rattle.laws.specs.Digits.{digits}
+use Rattle.laws.specs.Layout.{number}
+use Rattle.laws.specs.Room.{zeros}
+use Rattle.laws.specs.Format.{Judged, kept, breaks, judge}
+use Rattle.verdicts.specs.declared.Fault.{Fault}
+use Rattle.verdicts.specs.declared.Fault.the-variants.{BadHeader, BadFascn, BadMinutiae}
+use Rattle.fascn.specs.Fascn.{exclusive}
+use Rattle.fascn.specs.Reading.{valuesOf, framed, decoded, isFascn}
+use Rattle.fascn.proofs.Examples.{p-bytes}
+use Rattle.dates.specs.Calendar.{daysIn, exists}
+use Rattle.dates.specs.Moment.{isMoment}
+use Rattle.plain.specs.Plain.{ended, isCreator}
+use Rattle.minutiae.specs.Judged.{pointHolds, pointsHold, viewHead, extent, recordHead, isMinutiae}
+use Rattle.minutiae.proofs.Examples.{smallest}
+use Rattle.cbeff.specs.Header.{fingers, face, header}
+
+-- 2026-03-01, 12:00:00, and a year and a second later
+abbrev pub noon : List ℕ
+noon = 20 ∷ 26 ∷ 3 ∷ 1 ∷ 12 ∷ 0 ∷ 0 ∷ 0x5A ∷ []
+
+abbrev pub later : List ℕ
+later = 20 ∷ 27 ∷ 3 ∷ 1 ∷ 12 ∷ 0 ∷ 1 ∷ 0x5A ∷ []
+
+-- the 88 bytes of a header with this d and s, of this format, type and data type, valid in this time; quality 0, creator "CARD", P1's FASC-N
+abbrev pub heading : ℕ → ℕ → ℕ → ℕ → ℕ → List ℕ → List ℕ → List ℕ
+heading d s format sort form from to =
+    0x03 ∷ 0x0D ∷ number 4 d ++ number 2 s ++ (0x00 ∷ 0x1B ∷ []) ++ number 2 format ++ noon ++ from ++ to ++ number 3 sort
+    ++ (form ∷ 0 ∷ []) ++ (0x43 ∷ 0x41 ∷ 0x52 ∷ 0x44 ∷ zeros 14) ++ p-bytes 0xEB ++ zeros 4
+
+abbrev pub fingers-heading : ℕ → ℕ → List ℕ
+fingers-heading d s = heading d s 0x0201 0x000008 0x80 noon later
+
+-- with a minutiae record of 38 bytes and a signature of one
+abbrev pub fingers-value : List ℕ
+fingers-value = fingers-heading 38 1 ++ smallest ++ 0xAA ∷ []
+
+-- with one byte of data and a signature of one
+abbrev pub timed : List ℕ → List ℕ → List ℕ
+timed from to = heading 1 1 0x0501 0x000002 0x20 from to ++ (0x55 ∷ 0xAA ∷ [])
+
+abbrev pub face-value : List ℕ
+face-value = timed noon later
+
+abbrev pub of-fingers : List ℕ → Judged Fault
+of-fingers v = judge (header fingers (length v)) 0 v
+
+abbrev pub of-face : List ℕ → Judged Fault
+of-face v = judge (header face (length v)) 0 v
+
+pub lengths : (length fingers-value ≡ 127) × (length face-value ≡ 90)
+unfolding digits
+lengths = (refl, refl)
+
+-- each is kept, and refused as the other
+pub each-kept :
+    (of-fingers fingers-value ≡ kept)
+    × (of-face face-value ≡ kept)
+    × (of-fingers face-value ≡ breaks BadHeader)
+    × (of-face fingers-value ≡ breaks BadHeader)
+unfolding isMoment exists daysIn isCreator ended isFascn decoded valuesOf framed exclusive ones isMinutiae recordHead extent viewHead pointsHold pointHolds digits
+each-kept = (refl, refl, refl, refl)
+
+-- "The quality is a signed byte, -2 to 100": FD is -3, FE -2, FF -1, 64 hex 100
+pub fingers-quality :
+    (of-fingers (set fingers-value 40 0xFD) ≡ breaks BadHeader)
+    × (of-fingers (set fingers-value 40 0xFE) ≡ kept)
+    × (of-fingers (set fingers-value 40 0xFF) ≡ kept)
+    × (of-fingers (set fingers-value 40 0x64) ≡ kept)
+    × (of-fingers (set fingers-value 40 0x65) ≡ breaks BadHeader)
+unfolding isMoment exists daysIn isCreator ended isFascn decoded valuesOf framed exclusive ones isMinutiae recordHead extent viewHead pointsHold pointHolds digits
+fingers-quality = (refl, refl, refl, refl, refl)
+
+-- -1 is not known in face
+pub face-quality :
+    (of-face (set face-value 40 0xFE) ≡ kept)
+    × (of-face (set face-value 40 0xFF) ≡ breaks BadHeader)
+unfolding isMoment exists daysIn isCreator ended isFascn decoded valuesOf framed exclusive ones isMinutiae recordHead extent viewHead pointsHold pointHolds digits
+face-quality = (refl, refl)
+
+-- a FASC-N that is none (P2's) is told before the reserved bytes, which alone are the header's fault; and a creator that is none before it
+pub fascn-order :
+    (of-fingers (set fingers-value 83 0xEA) ≡ breaks BadFascn)
+    × (of-fingers (set fingers-value 84 0x01) ≡ breaks BadHeader)
+    × (of-fingers (set (set fingers-value 83 0xEA) 84 0x01) ≡ breaks BadFascn)
+    × (of-fingers (set (set fingers-value 41 0x1F) 83 0xEA) ≡ breaks BadHeader)
+unfolding isMoment exists daysIn isCreator ended isFascn decoded valuesOf framed exclusive ones isMinutiae recordHead extent viewHead pointsHold pointHolds digits
+fascn-order = (refl, refl, refl, refl)
+
+-- the version 20 32 30 00 in the minutiae is told after the reserved bytes; the data of a face are not examined
+pub minutiae-order :
+    (of-fingers (set fingers-value 95 0x00) ≡ breaks BadMinutiae)
+    × (of-fingers (set (set fingers-value 95 0x00) 84 0x01) ≡ breaks BadHeader)
+    × (of-face (set face-value 88 0xFF) ≡ kept)
+unfolding isMoment exists daysIn isCreator ended isFascn decoded valuesOf framed exclusive ones isMinutiae recordHead extent viewHead pointsHold pointHolds digits
+minutiae-order = (refl, refl, refl)
+
+-- d and s are not zero, also where the length is as they say; and it is as they say
+pub sizes :
+    (of-fingers (fingers-heading 0 39 ++ smallest ++ 0xAA ∷ []) ≡ breaks BadHeader)
+    × (of-fingers (fingers-heading 38 0 ++ smallest) ≡ breaks BadHeader)
+    × (of-fingers (fingers-heading 38 2 ++ smallest ++ 0xAA ∷ []) ≡ breaks BadHeader)
+unfolding isMoment exists daysIn isCreator ended isFascn decoded valuesOf framed exclusive ones isMinutiae recordHead extent viewHead pointsHold pointHolds digits
+sizes = (refl, refl, refl)
+
+-- "from not after to": the same second is kept, and one second later is not
+pub dates :
+    (of-face (timed later later) ≡ kept)
+    × (of-face (set (timed later later) 26 2) ≡ breaks BadHeader)
+    × (of-face (timed later noon) ≡ breaks BadHeader)
+unfolding isMoment exists daysIn isCreator ended isFascn decoded valuesOf framed exclusive ones isMinutiae recordHead extent viewHead pointsHold pointHolds digits
+dates = (refl, refl, refl)
+
+-- too short for the header, for the data, for the signature; 88 bytes are refused also where d and s say 88; and no bytes at all
+pub too-short :
+    (of-face (take 87 face-value) ≡ breaks BadHeader)
+    × (of-face (take 88 face-value) ≡ breaks BadHeader)
+    × (of-face (take 89 face-value) ≡ breaks BadHeader)
+    × (of-fingers (fingers-heading 0 0) ≡ breaks BadHeader)
+    × (of-fingers [] ≡ breaks BadHeader)
+unfolding isMoment exists daysIn isCreator ended isFascn decoded valuesOf framed exclusive ones isMinutiae recordHead extent viewHead pointsHold pointHolds digits
+too-short = (refl, refl, refl, refl, refl)

@@ -1,0 +1,5 @@
+pub mod Agreed
+pub mod Ways
+pub mod Told
+pub mod Exact
+pub mod Examples

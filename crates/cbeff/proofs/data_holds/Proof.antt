@@ -1,0 +1,10 @@
+-- `cbeff::data_holds` meets its contract. Assumes nothing.
+use borrow.Author.Needs.{needs}
+use Rattle.cbeff.proofs.data_holds.Statement.{statement}
+use Rattle.cbeff.proofs.data_holds.Tie as tie
+
+returns : tie.Need-returns
+returns c = rw (c .before .enum-told .given .1) (c .is-minutiae .ensures)
+
+pub data-holds-spec : {M : Type 1} → statement M
+data-holds-spec = tie.close (tie.spec (λ c. search needs) (λ c κs. search needs) (λ c. search needs) returns (λ c. search needs))

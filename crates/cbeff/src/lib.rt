@@ -1,0 +1,144 @@
+// The value of BC: the CBEFF header, field by field in 01's order, and its data part.
+ghost use mathlib.Core.Path.{_≡_};
+ghost use Prim.Native.Nat.{_^_, _<_, _≤_};
+ghost use lib.ListN.{length};
+ghost use Rattle.laws.specs.Format.{judge};
+ghost use Rattle.verdicts.specs.Verdicts.{ruled};
+ghost use Rattle.cbeff.specs.Header.{fingers, face, header, data-part};
+ghost use Rattle.cbeff.specs.Judged.{sizesHold, datesHold, formHolds};
+use dates::Moment;
+use dates::moment_of;
+use fascn::is_fascn;
+use minutiae::is_minutiae;
+use numbers::number;
+use plain::is_creator;
+use plain::is_quality;
+use verdicts::Fault;
+use verdicts::Rule;
+
+// What the data part of a format is.
+pub enum Body {
+    Minutiae,
+    Unexamined,
+}
+
+// What differs by format: its number, the type, the top three bits of the data type, whether a quality of -1 is known, and
+// what the data part is.
+pub struct Biometric {
+    pub format: u64,
+    pub sort: u64,
+    pub top: u64,
+    pub missing: bool,
+    pub body: Body,
+}
+
+// "format 0201 fingers", "type 000008 fingers", "data type, top three bits 100 fingers"; its data are minutiae.
+pub fn fingers() -> Biometric
+    ensures { λ r. ⌜ r ≡ fingers ⌝ }
+{
+    Biometric {
+        format: 0x0201,
+        sort: 0x000008,
+        top: 4,
+        missing: true,
+        body: Body::Minutiae,
+    }
+}
+
+// "0501 face", "000002 face", "001 face"; "In kind 7 the d bytes are not examined."
+pub fn face() -> Biometric
+    ensures { λ r. ⌜ r ≡ face ⌝ }
+{
+    Biometric {
+        format: 0x0501,
+        sort: 0x000002,
+        top: 1,
+        missing: false,
+        body: Body::Unexamined,
+    }
+}
+
+// Version, security, the lengths, owner, format. The data length d is handed in, since the data are found by it too.
+fn sizes_hold(format: u64, d: u64, v: &[u8]) -> bool
+    requires { ⌜ (88 ≤ length (now v)) × (d < 256 ^ 4) ⌝ }
+    ensures { λ r. ⌜ r ≡ sizesHold format d (now (v .entry)) ⌝ }
+{
+    let s = number(v, 6, 2);
+    (number(v, 0, 1) == 0x03)
+        & (number(v, 1, 1) == 0x0D)
+        & (1 <= d)
+        & (1 <= s)
+        & (88 + d + s == v.len() as u64)
+        & (number(v, 8, 2) == 0x001B)
+        & (number(v, 10, 2) == format)
+}
+
+// "creation date (8), validity from and to (16), from not after to": moments are in order by the numbers of their bytes.
+fn dates_hold(v: &[u8]) -> bool
+    requires { ⌜ 88 ≤ length (now v) ⌝ }
+    ensures { λ r. ⌜ r ≡ datesHold (now (v .entry)) ⌝ }
+{
+    let Moment::At(_) = moment_of(&v[12..20]) else {
+        return false;
+    };
+    let Moment::At(from) = moment_of(&v[20..28]) else {
+        return false;
+    };
+    let Moment::At(to) = moment_of(&v[28..36]) else {
+        return false;
+    };
+    from <= to
+}
+
+// Type, data type, quality, creator.
+fn form_holds(b: Biometric, v: &[u8]) -> bool
+    requires { ⌜ 88 ≤ length (now v) ⌝ }
+    ensures { λ r. ⌜ r ≡ formHolds b (now (v .entry)) ⌝ }
+{
+    (number(v, 36, 3) == b.sort)
+        & (number(v, 39, 1) / 32 == b.top)
+        & is_quality(b.missing, v[40])
+        & is_creator(&v[41..59])
+}
+
+// "Minutiae (the d bytes, kind 6)"; "In kind 7 the d bytes are not examined."
+fn data_holds(body: Body, bytes: &[u8]) -> bool
+    ensures { λ r. ⌜ r ≡ data-part body .test (now (bytes .entry)) ⌝ }
+{
+    match body {
+        Body::Minutiae => is_minutiae(bytes),
+        Body::Unexamined => true,
+    }
+}
+
+// The value of a BC of this format, judged in the order of the rules: a value that is too short for its header breaks the
+// length rule, and every fault that could come before that one is the same.
+pub fn judge(b: Biometric, v: &[u8]) -> Rule
+    ensures { λ r. ⌜ r ≡ ruled (judge (header b (length (now (v .entry)))) 0 (now (v .entry))) ⌝ }
+{
+    if v.len() < 88 {
+        return Rule::Breaks(Fault::BadHeader);
+    }
+    let d = number(v, 2, 4);
+    if !sizes_hold(b.format, d, v) {
+        return Rule::Breaks(Fault::BadHeader);
+    }
+    if !dates_hold(v) {
+        return Rule::Breaks(Fault::BadHeader);
+    }
+    if !form_holds(b, v) {
+        return Rule::Breaks(Fault::BadHeader);
+    }
+    if !is_fascn(&v[59..84]) {
+        return Rule::Breaks(Fault::BadFascn);
+    }
+    if number(v, 84, 4) != 0 {
+        return Rule::Breaks(Fault::BadHeader);
+    }
+    let body = b.body;
+    let end = 88 + d as usize;
+    if !data_holds(body, &v[88..end]) {
+        return Rule::Breaks(Fault::BadMinutiae);
+    }
+    Rule::Kept
+}

@@ -1,0 +1,170 @@
+-- The first broken rule: the elements are judged one by one in 01's order, and those before the named place keep their rules. Assumes nothing.
+use Prim.Native.Nat.{ℕ, _+_}
+use mathlib.Core.Logic.{inl, inr}
+use mathlib.Core.Path.{_≡_, refl, sym, ap, _∙_}
+use mathlib.Core.Bool.{Bool, true, false, cond}
+use mathlib.Core.Option.{Option, none, some}
+use mathlib.Core.List.{List, [], _∷_, _++_}
+use native.Mathlib.Omega.{arith}
+use lib.ListN.{length, take, drop}
+use lib.Seq.{drop-drop, take-append-add}
+use lib.Dec.{eqb}
+use borrow.Author.Tests.{eqb-true}
+use Rattle.laws.specs.Bytes.{Bytes}
+use Rattle.laws.proofs.Bases.{below-drop}
+use Rattle.laws.proofs.Cases.{which}
+use Rattle.lengths.specs.Length.{lengthBytes}
+use Rattle.kinds.specs.Tables.{Entry, Table}
+use Rattle.verdicts.specs.declared.Fault.{Fault}
+use Rattle.verdicts.specs.declared.Fault.the-variants.{TagOrder, MissingRow}
+use Rattle.verdicts.specs.declared.Outcome.{Outcome}
+use Rattle.verdicts.specs.declared.Outcome.the-variants.{Broken}
+use Rattle.container.specs.Container.{Values, tagBytes, encode, Allowed}
+use Rattle.container.specs.Reading.{Parsed, values, fault, prepend, Element, whole, broken, element, long, has, tagHere, follow, parse, outcomeOf}
+use Rattle.container.specs.InOrder.{Place, nowhere, found, beyond, locate, onward, placed, inOrder}
+use Rattle.container.proofs.Rows.{kept, gone}
+use Rattle.container.proofs.Tags.{tag-is}
+use Rattle.container.proofs.One.{element-is, good-fits}
+use Rattle.container.proofs.Exact.{bytes-front, bytes-back}
+
+-- ---- in 01's order
+
+module _ (today : ℕ) (all : Table) (at b : ℕ) (s : List ℕ) where
+  abbrev t : ℕ
+  t = tagHere all b s
+
+  abbrev go-on : Place → Outcome
+  go-on = placed today all at (b ∷ s) t
+
+  twice : (o : Bool) (p : Place) → go-on (beyond false (beyond o p)) ≡ go-on (beyond false p)
+  twice o nowhere = refl
+  twice o (found m y later) = refl
+
+  same : (p : Place) → go-on (beyond true p) ≡ go-on p
+  same nowhere = refl
+  same (found m y later) = refl
+
+  stopped : (rs : Table) → Broken (cond (has t rs) MissingRow TagOrder) at ≡ go-on (beyond false (locate t rs))
+  stopped [] = refl
+  stopped (x ∷ xs) =
+      elim (which (eqb t (x .tag))) [
+        | inl q ↦ rw q
+        | inr q ↦ rw q (stopped xs ∙ sym (twice (x .optional) (locate t xs)))
+      ]
+
+  followed-on : (r : Entry) (later : Table) (x : Element) → outcomeOf (follow at x (λ n. parse today all later (at + (long (r .tag) + n)) (drop (long (r .tag) + n) (b ∷ s)))) ≡ onward today all at (b ∷ s) t r later x
+  followed-on r later (whole v n) = kept (some v) (parse today all later (at + (long (r .tag) + n)) (drop (long (r .tag) + n) (b ∷ s)))
+  followed-on r later (broken f) = refl
+
+  listed : (rest : Table) → has t all ≡ true → outcomeOf (parse today all rest at (b ∷ s)) ≡ go-on (locate t rest)
+  listed [] h = rw h
+  listed (r ∷ rs) h =
+      elim (which (eqb t (r .tag))) [
+        | inl q ↦ rw q (followed-on r rs (element (r .lengths) (r .rule) today (drop (long (r .tag)) (b ∷ s))))
+        | inr q ↦
+            elim (which (r .optional)) [
+              | inl o ↦ rw (q, o) (kept none (parse today all rs at (b ∷ s)) ∙ (listed rs h ∙ sym (same (locate t rs))))
+              | inr o ↦ rw (q, o, h) (stopped rs)
+            ]
+      ]
+
+  -- an element, while the rows `rest` are to come, which are rows of the table: 13, 14, 15, then its own rules, then on
+  pub in-order : (rest : Table) → (has t all ≡ false → has t rest ≡ false) → outcomeOf (parse today all rest at (b ∷ s)) ≡ inOrder today all at (b ∷ s) t rest
+  in-order rest k =
+      elim (which (has t all)) [
+        | inl h ↦ rw h (listed rest h)
+        | inr h ↦ rw h (gone today all at b s rest (k h) ∙ rw h)
+      ]
+
+-- ---- what stands before the named place
+
+-- some of the rows, with values that are allowed, are written as the bytes before the place
+pub record Before (today : ℕ) (rest : Table) (at : ℕ) (s : List ℕ) (place : ℕ) : Type 0 where
+  pub rows : Table
+  pub later : Table
+  pub vs : Values
+  pub split : rest ≡ rows ++ later
+  pub allowed : Allowed today rows vs
+  pub size : ℕ
+  pub place-is : place ≡ at + size
+  pub written : take size s ≡ encode rows vs
+
+here : (today : ℕ) (rest : Table) (at : ℕ) (s : List ℕ) → Before today rest at s at
+here today rest at s = record { rows = []; later = rest; vs = []; split = refl; allowed = tt; size = 0; place-is = omega arith; written = refl }
+
+skip : (today : ℕ) (r : Entry) (rs : Table) (at : ℕ) (s : List ℕ) (p : ℕ) → r .optional ≡ true → Before today rs at s p → Before today (r ∷ rs) at s p
+skip today r rs at s p o b =
+    record {
+      rows = r ∷ b .rows;
+      later = b .later;
+      vs = none ∷ b .vs;
+      split = ap (λ (l : Table). r ∷ l) (b .split);
+      allowed = (o, b .allowed);
+      size = b .size;
+      place-is = b .place-is;
+      written = b .written;
+    }
+
+fault-of : (o : Option (List ℕ)) (x : Parsed) {f : Fault} {p : ℕ} → prepend o x ≡ fault f p → x ≡ fault f p
+fault-of o (values vs) e = let z : _≡_ {A = ℕ} 0 1 = cc in absurd (omega arith)
+fault-of o (fault g q) e = e
+
+pub place-of : {f g : Fault} {p q : ℕ} → fault f p ≡ fault g q → q ≡ p
+place-of e = cc
+
+module _ (today : ℕ) (all : Table) where
+  after-element : (r : Entry) (rs : Table) (at x : ℕ) (s : List ℕ) → Bytes (x ∷ s) → tagHere all x s ≡ r .tag → (v : List ℕ) (n p : ℕ)
+      → element (r .lengths) (r .rule) today (drop (long (r .tag)) (x ∷ s)) ≡ whole v n
+      → Before today rs (at + (long (r .tag) + n)) (drop (long (r .tag) + n) (x ∷ s)) p → Before today (r ∷ rs) at (x ∷ s) p
+  after-element r rs at x s b q v n p e w =
+      let body = drop (long (r .tag)) (x ∷ s) in
+      let bb : Bytes body = below-drop 256 (long (r .tag)) (x ∷ s) b in
+      let g = element-is (r .lengths) (r .rule) today body bb v n e in
+      let t : x ∷ s ≡ tagBytes (r .tag) ++ body = rw q at (tag-is all x s (b .0)) in
+      let bv : Bytes v = bytes-front v (drop n body) (bytes-back (lengthBytes (length v)) (v ++ drop n body) (rw (g .2) at bb)) in
+      let y : List ℕ = drop n body in
+      let z : drop (long (r .tag) + n) (x ∷ s) ≡ y = sym (drop-drop n (long (r .tag)) (x ∷ s)) in
+      let m = w .size in
+      let h : take m y ≡ encode (w .rows) (w .vs) = rw z at (w .written) in
+      let k : take (length v + m) (v ++ y) ≡ v ++ encode (w .rows) (w .vs) = take-append-add v y m ∙ rw h in
+      let l : take (length (lengthBytes (length v)) + (length v + m)) (lengthBytes (length v) ++ (v ++ y)) ≡ lengthBytes (length v) ++ (v ++ encode (w .rows) (w .vs)) =
+      take-append-add (lengthBytes (length v)) (v ++ y) (length v + m) ∙ rw k in
+      let i : length (lengthBytes (length v)) + (length v + m) ≡ n + m = omega (arith, g .1) in
+      let j : take (n + m) body ≡ lengthBytes (length v) ++ (v ++ encode (w .rows) (w .vs)) = ap (take (n + m)) (g .2) ∙ rw (← i) l in
+      record {
+        rows = r ∷ w .rows;
+        later = w .later;
+        vs = some v ∷ w .vs;
+        split = ap (λ (l : Table). r ∷ l) (w .split);
+        allowed = (good-fits today r v bv (g .0), w .allowed);
+        size = long (r .tag) + (n + m);
+        place-is = omega (arith, w .place-is);
+        written = ap (take (long (r .tag) + (n + m))) t ∙ take-append-add (tagBytes (r .tag)) body (n + m) ∙ rw j;
+      }
+
+  follow-fault : (at : ℕ) (x : Element) (k : ℕ → Parsed) {f : Fault} {p : ℕ} → follow at x k ≡ fault f p
+      → {P : Type 0} → (p ≡ at → P) → ((v : List ℕ) (n : ℕ) → x ≡ whole v n → k n ≡ fault f p → P) → P
+  follow-fault at (whole v n) k e here on = on v n refl (fault-of (some v) (k n) e)
+  follow-fault at (broken g) k e here on = here (place-of e)
+
+  -- what stands before the place of the first broken rule keeps its rules
+  pub before : (rest : Table) (at : ℕ) (s : List ℕ) → Bytes s → (f : Fault) (p : ℕ) → parse today all rest at s ≡ fault f p → Before today rest at s p
+  before [] at [] b f p e = let z : _≡_ {A = ℕ} 0 1 = cc in absurd (omega arith)
+  before [] at (x ∷ s) b f p e = rw (place-of e) (here today [] at (x ∷ s))
+  before (r ∷ rs) at [] b f p e =
+      elim (which (r .optional)) [
+        | inl o ↦ skip today r rs at [] p o (before rs at [] b f p (fault-of none (parse today all rs at []) (rw o at e)))
+        | inr o ↦ rw (place-of (rw o at e)) (here today (r ∷ rs) at [])
+      ]
+  before (r ∷ rs) at (x ∷ s) b f p e =
+      elim (which (eqb (tagHere all x s) (r .tag))) [
+        | inl q ↦
+            follow-fault at (element (r .lengths) (r .rule) today (drop (long (r .tag)) (x ∷ s))) (λ n. parse today all rs (at + (long (r .tag) + n)) (drop (long (r .tag) + n) (x ∷ s))) (rw q at e)
+            (λ z. rw z (here today (r ∷ rs) at (x ∷ s)))
+            (λ v n w k. after-element r rs at x s b (eqb-true _ _ q) v n p w (before rs (at + (long (r .tag) + n)) (drop (long (r .tag) + n) (x ∷ s)) (below-drop 256 (long (r .tag) + n) (x ∷ s) b) f p k))
+        | inr q ↦
+            elim (which (r .optional)) [
+              | inl o ↦ skip today r rs at (x ∷ s) p o (before rs at (x ∷ s) b f p (fault-of none (parse today all rs at (x ∷ s)) (rw (q, o) at e)))
+              | inr o ↦ rw (place-of (rw (q, o) at e)) (here today (r ∷ rs) at (x ∷ s))
+            ]
+      ]

@@ -1,0 +1,11 @@
+pub mod One
+pub mod Rows
+pub mod Tags
+pub mod Exact
+pub mod Promise
+pub mod Lengthy
+pub mod Turn
+pub mod Ways
+pub mod Places
+pub mod InOrder
+pub mod Walk

@@ -1,0 +1,161 @@
+-- Demand 2, first half: under a date a container of a kind conforms exactly when some allowed values are written as its bytes, and these are unique.
+-- Assumes nothing.
+use Prim.Native.Nat.{ℕ, _+_, _<_}
+use mathlib.Core.Logic.{_⊎_, inl, inr, _↔_}
+use mathlib.Core.Path.{_≡_, refl, sym, ap, _∙_}
+use mathlib.Core.Bool.{true}
+use mathlib.Core.Option.{Option, none, some}
+use mathlib.Core.List.{List, [], _∷_, _++_}
+use native.Mathlib.Omega.{arith}
+use lib.ListN.{length, drop, length-append, length-drop, take-append-drop}
+use lib.Seq.{drop-append-seam, drop-drop}
+use lib.Dec.{leb, eqb}
+use borrow.Author.Tests.{le-leb, leb-true, eq-eqb, eqb-true}
+use Rattle.laws.specs.Bytes.{Bytes}
+use Rattle.laws.proofs.Bases.{below-drop}
+use Rattle.laws.proofs.Cases.{which, and-true, and-is}
+use Rattle.lengths.specs.Length.{lengthBytes, readLength, Spelt}
+use Rattle.lengths.proofs.Spellings.{exact as spelling-exact, reads-back}
+use Rattle.dates.specs.Date.{isDate}
+use Rattle.dates.proofs.Dates.{date-exact}
+use Rattle.kinds.specs.Tables.{Table, table, IsKind, isKind}
+use Rattle.verdicts.specs.Verdicts.{verdictOf}
+use Rattle.verdicts.proofs.Apart.{never-zero}
+use Rattle.verdicts.specs.declared.Outcome.{Outcome}
+use Rattle.verdicts.specs.declared.Outcome.the-variants.{Fine, Broken}
+use Rattle.container.specs.Container.{Values, encode, outerTag, container, Allowed, largest, Conforms}
+use Rattle.container.specs.Reading.{Parsed, values, fault, inner, outer, parsed, outcomeOf, outcome, verdict}
+use Rattle.container.proofs.Tags.{distinct, tags}
+use Rattle.container.proofs.Exact.{no-values, sound, complete}
+use Rattle.container.proofs.InOrder.{Before, place-of, before}
+use Rattle.verdicts.specs.declared.Fault.{Fault}
+
+pub kind-exact : (kind : ℕ) → (isKind kind ≡ true) ↔ IsKind kind
+kind-exact kind = (
+  λ e. let c = and-true (leb 1 kind) (leb kind 7) e in (leb-true _ _ (c .0), leb-true _ _ (c .1)),
+  λ k. and-is _ _ (le-leb _ _ (k .0)) (le-leb _ _ (k .1)),
+)
+
+-- ---- what is read was written
+
+inner-is : (today : ℕ) (rows : Table) (o : Option Spelt) (s : List ℕ) → readLength s ≡ o → Bytes s → (vs : Values) → inner today rows o s ≡ values vs
+    → Allowed today rows vs × (s ≡ lengthBytes (length (encode rows vs)) ++ encode rows vs)
+inner-is today rows none s f b vs e = absurd (no-values e)
+inner-is today rows (some n) s f b vs e =
+    elim (which (eqb (length s) (n .width + n .number))) [
+      | inl q ↦
+          let p = sound today rows rows (1 + n .width) (drop (n .width) s) (below-drop 256 (n .width) s b) vs (rw q at e) in
+          let x = spelling-exact s b (n .number) (n .width) .0 f in
+          let m : n .number ≡ length (encode rows vs) = omega (arith, eqb-true (length s) (n .width + n .number) q, length-drop (n .width) s, ap length (p .1)) in
+          (p .0, rw (← m) (sym (take-append-drop (n .width) s) ∙ rw (x .1 .1, p .1)))
+      | inr q ↦ absurd (no-values (rw q at e))
+    ]
+
+outer-is : (kind today : ℕ) (c : List ℕ) → Bytes c → (vs : Values) → outer kind today c ≡ values vs → Allowed today (table kind) vs × (c ≡ container kind vs)
+outer-is kind today [] b vs e = absurd (no-values e)
+outer-is kind today (t ∷ s) b vs e =
+    elim (which (eqb t (outerTag kind))) [
+      | inl q ↦
+          let p = inner-is today (table kind) (readLength s) s refl (b .1) vs (rw q at e) in
+          (p .0, ap (λ (x : ℕ). x ∷ s) (eqb-true _ _ q) ∙ ap (λ (x : List ℕ). outerTag kind ∷ x) (p .1))
+      | inr q ↦ absurd (no-values (rw q at e))
+    ]
+
+parsed-conforms : (kind today : ℕ) (c : List ℕ) → Bytes c → (vs : Values) → parsed kind today c ≡ values vs → Conforms kind today vs c
+unfolding parsed
+parsed-conforms kind today c b vs e =
+    elim (which (isKind kind)) [
+      | inl k ↦
+          elim (which (isDate today)) [
+            | inl d ↦
+                elim (which (leb (length c) largest)) [
+                  | inl l ↦
+                      let p = outer-is kind today c b vs (rw (k, d, l) at e) in
+                      record { kind-is = kind-exact kind .0 k; date-is = date-exact today .0 d; size-is = leb-true _ _ l; allowed = p .0; written = p .1 }
+                  | inr l ↦ absurd (no-values (rw (k, d, l) at e))
+                ]
+            | inr d ↦ absurd (no-values (rw (k, d) at e))
+          ]
+      | inr k ↦ absurd (no-values (rw k at e))
+    ]
+
+-- ---- and what is written is read
+
+pub conforms-parsed : (kind today : ℕ) (c : List ℕ) → Bytes c → (vs : Values) → Conforms kind today vs c → parsed kind today c ≡ values vs
+unfolding parsed
+conforms-parsed kind today c b vs h =
+    let body = encode (table kind) vs in
+    let head = lengthBytes (length body) in
+    let l = length-append head body in
+    let z = ap length (h .written) in
+    let f : length body < 65536 = omega (arith, l, z, h .size-is) in
+    let bc : Bytes (container kind vs) = rw (h .written) at b in
+    let bb : Bytes body = rw (drop-append-seam head body) at (below-drop 256 (length head) (head ++ body) (bc .1)) in
+    rw (kind-exact kind .1 (h .kind-is), date-exact today .1 (h .date-is), le-leb _ _ (h .size-is), h .written, eq-eqb (outerTag kind) (outerTag kind) refl, reads-back (length body) body f, eq-eqb _ _ l, drop-append-seam head body)
+    (complete today (table kind) (table kind) (1 + length head) vs (tags kind) (distinct kind) (h .allowed) bb f)
+
+-- ---- the theorems
+
+-- bytes come to values exactly where they are the container of these values
+pub exact : (kind today : ℕ) (c : List ℕ) → Bytes c → (vs : Values) → (parsed kind today c ≡ values vs) ↔ Conforms kind today vs c
+exact kind today c b vs = (parsed-conforms kind today c b vs, conforms-parsed kind today c b vs)
+
+-- no container has two readings
+pub unique : (kind today : ℕ) (c : List ℕ) → Bytes c → (vs ws : Values) → Conforms kind today vs c → Conforms kind today ws c → vs ≡ ws
+unique kind today c b vs ws h k =
+    let e : values vs ≡ values ws = sym (conforms-parsed kind today c b vs h) ∙ conforms-parsed kind today c b ws k in
+    cc
+
+pub fine-exact : (kind today : ℕ) (c : List ℕ) → Bytes c → (outcome kind today c ≡ Fine) ↔ ((vs : Values) × Conforms kind today vs c)
+unfolding outcome
+fine-exact kind today c b = (go (parsed kind today c) refl, λ h. ap outcomeOf (conforms-parsed kind today c b (h .0) (h .1)))
+  where
+    go : (p : Parsed) → parsed kind today c ≡ p → outcomeOf p ≡ Fine → (vs : Values) × Conforms kind today vs c
+    go (values vs) e z = (vs, parsed-conforms kind today c b vs e)
+    go (fault f p) e z = let y : _≡_ {A = ℕ} 0 1 = cc in absurd (omega arith)
+
+zero-fine : (o : Outcome) → (verdictOf o .number ≡ 0) ↔ (o ≡ Fine)
+zero-fine Fine = (λ e. refl, λ e. refl)
+zero-fine (Broken f p) = (λ e. absurd (never-zero f e), λ e. ap (λ (o : Outcome). verdictOf o .number) e)
+
+-- in 01's number: the verdict is 0 exactly when there are values that are allowed and written as these bytes
+pub exactly-when : (kind today : ℕ) (c : List ℕ) → Bytes c → (verdict kind today c .number ≡ 0) ↔ ((vs : Values) × Conforms kind today vs c)
+exactly-when kind today c b =
+    (λ e. fine-exact kind today c b .0 (zero-fine (outcome kind today c) .0 e), λ h. zero-fine (outcome kind today c) .1 (fine-exact kind today c b .1 h))
+
+-- ---- the first broken rule: a fault with a place stands in an element, and the elements before it keep their rules
+
+pub named : (kind today : ℕ) (c : List ℕ) → Bytes c → (f : Fault) (p : ℕ) → parsed kind today c ≡ fault f p
+    → (p ≡ 0) ⊎ ((n : Spelt) × (readLength (drop 1 c) ≡ some n) × Before today (table kind) (1 + n .width) (drop (1 + n .width) c) p)
+unfolding parsed
+named kind today c b f p e =
+    elim (which (isKind kind)) [
+      | inl k ↦
+          elim (which (isDate today)) [
+            | inl d ↦
+                elim (which (leb (length c) largest)) [
+                  | inl l ↦ in-outer c b (rw (k, d, l) at e)
+                  | inr l ↦ inl (place-of (rw (k, d, l) at e))
+                ]
+            | inr d ↦ inl (place-of (rw (k, d) at e))
+          ]
+      | inr k ↦ inl (place-of (rw k at e))
+    ]
+  where
+    in-inner : (o : Option Spelt) (t : ℕ) (s : List ℕ) → readLength s ≡ o → Bytes s → inner today (table kind) o s ≡ fault f p
+        → (p ≡ 0) ⊎ ((n : Spelt) × (readLength s ≡ some n) × Before today (table kind) (1 + n .width) (drop (1 + n .width) (t ∷ s)) p)
+    in-inner none t s r b e = inl (place-of e)
+    in-inner (some n) t s r b e =
+        elim (which (eqb (length s) (n .width + n .number))) [
+          | inl q ↦ inr (n, r, rw (← drop-drop (n .width) 1 (t ∷ s)) (before today (table kind) (table kind) (1 + n .width) (drop (n .width) s) (below-drop 256 (n .width) s b) f p (rw q at e)))
+          | inr q ↦ inl (place-of (rw q at e))
+        ]
+
+    in-outer : (c : List ℕ) → Bytes c → outer kind today c ≡ fault f p
+        → (p ≡ 0) ⊎ ((n : Spelt) × (readLength (drop 1 c) ≡ some n) × Before today (table kind) (1 + n .width) (drop (1 + n .width) c) p)
+    in-outer [] b e = inl (place-of e)
+    in-outer (t ∷ s) b e =
+        elim (which (eqb t (outerTag kind))) [
+          | inl q ↦ in-inner (readLength s) t s refl (b .1) (rw q at e)
+          | inr q ↦ inl (place-of (rw q at e))
+        ]

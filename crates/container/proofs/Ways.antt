@@ -1,0 +1,103 @@
+-- The outer form and what comes before it, by the tests that the code makes. Assumes nothing.
+use Prim.Native.Nat.{ℕ, _+_, _-_, _≤_, _<_}
+use mathlib.Core.Path.{_≡_, refl}
+use mathlib.Core.Bool.{Bool, true, false, _||_}
+use mathlib.Core.Option.{some}
+use mathlib.Core.List.{List, [], _∷_}
+use native.Mathlib.Omega.{arith}
+use lib.ListN.{length, getD, drop}
+use lib.Seq.{drop-drop}
+use lib.Dec.{ltb}
+use borrow.Author.Tests.{le-leb, lt-leb, eq-eqb, ne-eqb, ltb-true, ltb-false}
+use Rattle.laws.specs.Bytes.{Bytes}
+use Rattle.laws.proofs.Cases.{either}
+use Rattle.lengths.specs.Length.{readLength, lengthAt}
+use Rattle.lengths.specs.declared.Length.the-variants.{Is, Bad}
+use Rattle.lengths.proofs.Reading.{some-read, none-read}
+use Rattle.lengths.proofs.Spellings.{inside as spelling-inside}
+use Rattle.dates.specs.Date.{isDate}
+use Rattle.kinds.specs.Tables.{isKind}
+use Rattle.verdicts.specs.declared.Fault.the-variants.{UnknownKind, NoDate, LargeContainer, OuterTag, LengthForm, Overrun}
+use Rattle.verdicts.specs.declared.Outcome.the-variants.{Broken}
+use Rattle.container.specs.Container.{outerTag}
+use Rattle.container.specs.Reading.{outer, parsed, outcomeOf, outcome}
+use Rattle.container.specs.Step.{walkedFrom}
+
+-- ---- 1, 2, 4
+
+module _ (kind today : ℕ) (c : List ℕ) where
+  no-kind : (kind < 1) → isKind kind ≡ false
+  no-kind h = simp (lt-leb 1 kind h)
+
+  over-kind : 7 < kind → isKind kind ≡ false
+  over-kind h = let l : 1 ≤ kind = omega arith in simp (le-leb 1 kind l, lt-leb kind 7 h)
+
+  pub bad-kind : (ltb kind 1 || ltb 7 kind) ≡ true → Broken UnknownKind 0 ≡ outcome kind today c
+  unfolding outcome parsed
+  bad-kind e = let k : isKind kind ≡ false = either (ltb kind 1) (ltb 7 kind) (λ p. no-kind (ltb-true _ _ p)) (λ p. over-kind (ltb-true _ _ p)) e in rw k
+
+  good-kind : (a b : Bool) → (a || b) ≡ false → (a ≡ false) × (b ≡ false)
+  good-kind true b e = let z : _≡_ {A = ℕ} 0 1 = cc in absurd (omega arith)
+  good-kind false b e = (refl, e)
+
+  module _ (e : (ltb kind 1 || ltb 7 kind) ≡ false) where
+    kind-good : isKind kind ≡ true
+    kind-good =
+        let p = good-kind (ltb kind 1) (ltb 7 kind) e in
+        simp (le-leb 1 kind (ltb-false _ _ (p .0)), le-leb kind 7 (ltb-false _ _ (p .1)))
+
+    pub bad-date : isDate today ≡ false → Broken NoDate 0 ≡ outcome kind today c
+    unfolding outcome parsed
+    bad-date d = rw (kind-good, d)
+
+    module _ (d : isDate today ≡ true) where
+      pub too-large : 32768 < length c → Broken LargeContainer 0 ≡ outcome kind today c
+      unfolding outcome parsed
+      too-large l = rw (kind-good, d, lt-leb _ _ l)
+
+      pub goes-in : length c ≤ 32768 → outcomeOf (outer kind today c) ≡ outcome kind today c
+      unfolding outcome parsed
+      goes-in l = rw (kind-good, d, le-leb _ _ l)
+
+-- ---- 10, 11, 12
+
+pub no-bytes : (kind today : ℕ) (c : List ℕ) → length c ≡ 0 → Broken OuterTag 0 ≡ outcomeOf (outer kind today c)
+no-bytes kind today [] h = refl
+no-bytes kind today (t ∷ s) h = absurd (omega arith)
+
+pub wrong-tag : (kind today : ℕ) (c : List ℕ) → (getD c 0 0 ≡ outerTag kind → ⊥) → Broken OuterTag 0 ≡ outcomeOf (outer kind today c)
+wrong-tag kind today [] h = refl
+wrong-tag kind today (t ∷ s) h = rw (ne-eqb t (outerTag kind) h)
+
+pub no-length : (kind today : ℕ) (c : List ℕ) → (length c ≡ 0 → ⊥) → getD c 0 0 ≡ outerTag kind → Bad ≡ lengthAt 1 (drop 1 c) → Broken LengthForm 0 ≡ outcomeOf (outer kind today c)
+no-length kind today [] z h f = absurd (z refl)
+no-length kind today (t ∷ s) z h f = rw (eq-eqb t (outerTag kind) h, none-read 1 s f)
+
+-- what a length of the outer form says of the place after it
+pub within-outer : (c : List ℕ) {n next : ℕ} → Bytes c → (length c ≡ 0 → ⊥) → Is n next ≡ lengthAt 1 (drop 1 c) → next ≤ length c
+within-outer [] b z f = absurd (z refl)
+within-outer (t ∷ s) {n} {next} b z f =
+    let m = some-read 1 s f in
+    let r = spelling-inside s (b .1) (record { number = n; width = m .0 }) (m .1) in
+    omega (arith, m .2, r .1)
+
+pub off-end : (kind today : ℕ) (c : List ℕ) {n next : ℕ} → Bytes c → (length c ≡ 0 → ⊥) → getD c 0 0 ≡ outerTag kind → Is n next ≡ lengthAt 1 (drop 1 c) → (length c - next ≡ n → ⊥)
+    → Broken Overrun 0 ≡ outcomeOf (outer kind today c)
+off-end kind today [] b z h f k = absurd (z refl)
+off-end kind today (t ∷ s) {n} {next} b z h f k =
+    let m = some-read 1 s f in
+    let k′ : length s ≡ m .0 + n → ⊥ = λ q. k (omega (arith, m .2)) in
+    rw (eq-eqb t (outerTag kind) h, m .1, ne-eqb _ _ k′)
+
+fitted : (kind today t : ℕ) (s : List ℕ) (n w next : ℕ) → t ≡ outerTag kind → readLength s ≡ some (record { number = n; width = w }) → next ≡ 1 + w → length s ≡ w + n
+    → walkedFrom kind today (t ∷ s) next 0 ≡ outcomeOf (outer kind today (t ∷ s))
+unfolding walkedFrom
+fitted kind today t s n w next h r e k = rw (eq-eqb t (outerTag kind) h, r, eq-eqb _ _ k, e, ← drop-drop w 1 (t ∷ s))
+
+pub fits-outer : (kind today : ℕ) (c : List ℕ) {n next : ℕ} → Bytes c → (length c ≡ 0 → ⊥) → getD c 0 0 ≡ outerTag kind → Is n next ≡ lengthAt 1 (drop 1 c) → length c - next ≡ n
+    → walkedFrom kind today c next 0 ≡ outcomeOf (outer kind today c)
+fits-outer kind today [] b z h f k = absurd (z refl)
+fits-outer kind today (t ∷ s) {n} {next} b z h f k =
+    let m = some-read 1 s f in
+    let l = within-outer (t ∷ s) b z f in
+    fitted kind today t s n (m .0) next h (m .1) (m .2) (omega (arith, m .2))

@@ -1,0 +1,74 @@
+-- `container::whole` meets its contract: a law for each way out. Assumes nothing.
+use Prim.Native.Nat.{_≤_}
+use mathlib.Core.Path.{_≡_, sym, _∙_}
+use native.Mathlib.Omega.{arith}
+use lib.ListN.{length, getD, drop}
+use borrow.Author.Needs.{needs}
+use Rattle.laws.specs.Bytes.{Bytes}
+use Rattle.laws.proofs.Bases.{below-of}
+use Rattle.lengths.specs.Length.{lengthAt}
+use Rattle.lengths.specs.declared.Length.the-variants.{Is}
+use Rattle.container.specs.Container.{outerTag}
+use Rattle.container.proofs.Ways.{no-bytes, wrong-tag, no-length, within-outer, off-end, fits-outer}
+use Rattle.container.proofs.whole.Statement.{statement}
+use Rattle.container.proofs.whole.Tie as tie
+
+-- the outer tag is the kind's
+tagged : (c : tie.Else2) → let a = c .before .before .before .before .before .args in getD (a .c .now) 0 0 ≡ outerTag (a .kind)
+tagged c = c .if2 .left ∙ c .before .outer-tag .ensures
+
+bytes : (k : tie.After-known-told) → Bytes (k .before .before .before .before .before .before .before .before .before .args .c .now)
+bytes k = below-of 256 (k .before .before .before .before .before .before .before .before .before .args .c .now) (λ i. k .before .before .before .before .before .before .before .before .shared-slice-known .given i .fits)
+
+told : (k : tie.After-known-told) → Is (k .before .n .given .0 .0) (k .before .n .given .0 .1 .0) ≡ lengthAt 1 (drop 1 (k .before .before .before .before .before .before .before .before .before .args .c .now))
+told k = sym (k .before .n .given .1) ∙ k .before .before .before .read-length .ensures
+
+within : (k : tie.After-known-told) → k .before .n .given .0 .1 .0 ≤ length (k .before .before .before .before .before .before .before .before .before .args .c .now)
+within k =
+    let z = k .before .before .before .before .before .before .before .if1 .left in
+    within-outer (k .before .before .before .before .before .before .before .before .before .args .c .now) (bytes k) z (told k)
+
+returns : tie.Need-returns
+returns c = no-bytes _ _ (c .before .before .args .c .now) (c .if1 .taken)
+
+returns-2 : tie.Need-returns-2
+returns-2 c =
+    let a = c .before .before .before .before .before .args in
+    wrong-tag (a .kind) (a .today) (a .c .now) (λ q. c .if2 .taken (q ∙ sym (c .before .outer-tag .ensures)))
+
+returns-3 : tie.Need-returns-3
+returns-3 c =
+    let k = c .before in
+    let e = k .before .before .before .before in
+    let a = e .before .before .before .before .before .args in
+    off-end (a .kind) (a .today) (a .c .now) (bytes k) (e .before .before .before .if1 .left) (tagged e) (told k) (c .if3 .taken)
+
+returns-4 : tie.Need-returns-4
+returns-4 c =
+    let e = c .before .before .before in
+    let a = e .before .before .before .before .before .args in
+    no-length (a .kind) (a .today) (a .c .now) (e .before .before .before .if1 .left) (tagged e) (sym (c .enum-told .given .1) ∙ c .before .before .read-length .ensures)
+
+returns-5 : tie.Need-returns-5
+returns-5 c =
+    let k = c .before .before in
+    let e = k .before .before .before .before in
+    let a = e .before .before .before .before .before .args in
+    c .elements .ensures ∙ fits-outer (a .kind) (a .today) (a .c .now) (bytes k) (e .before .before .before .if1 .left) (tagged e) (told k) (c .before .if3 .left)
+
+pub whole-spec : {M : Type 1} → statement M
+whole-spec =
+    tie.close
+    (tie.spec
+    returns
+    (λ c. search needs)
+    (λ c κs. search needs)
+    returns-2
+    (λ c κs. search needs)
+    (λ c. search needs)
+    (λ c. search needs)
+    (λ c. omega (arith, within c))
+    returns-3
+    (λ c κs. within (c .before))
+    returns-4
+    returns-5)

@@ -1,0 +1,119 @@
+-- A container read: its values, or the first rule that it breaks and its place. `proofs/` shows that values are read exactly where the container
+-- conforms (`Exact`), and that faults come in 01's order (`InOrder`).
+use Prim.Native.Nat.{ℕ, _+_}
+use mathlib.Core.Bool.{Bool, true, false, cond, _&&_}
+use mathlib.Core.Option.{Option, none, some}
+use mathlib.Core.List.{List, [], _∷_}
+use lib.ListN.{length, take, drop}
+use lib.Dec.{ltb, leb, eqb}
+use Rattle.lengths.specs.Length.{Spelt, readLength}
+use Rattle.kinds.specs.Tables.{Lengths, Table, table, permitted, isKind}
+use Rattle.kinds.specs.declared.ValueRule.{ValueRule}
+use Rattle.dates.specs.Date.{isDate}
+use Rattle.rules.specs.Rules.{ruleOf}
+use Rattle.verdicts.specs.Verdicts.{verdictOf}
+use Rattle.verdicts.specs.declared.Fault.{Fault}
+use Rattle.verdicts.specs.declared.Fault.the-variants.{UnknownKind, NoDate, LargeContainer, OuterTag, LengthForm, Overrun, UnknownTag, TagOrder, MissingRow, ElementLength}
+use Rattle.verdicts.specs.declared.Rule.{Rule}
+use Rattle.verdicts.specs.declared.Rule.the-variants.{Kept, Breaks}
+use Rattle.verdicts.specs.declared.Outcome.{Outcome}
+use Rattle.verdicts.specs.declared.Outcome.the-variants.{Fine, Broken}
+use Rattle.verdicts.specs.declared.Verdict.{Verdict}
+use Rattle.container.specs.Container.{Values, tagBytes, outerTag, largest}
+
+pub data Parsed : Type 0 where
+  values : Values → Parsed
+  fault : Fault → ℕ → Parsed
+
+abbrev pub prepend : Option (List ℕ) → Parsed → Parsed
+prepend o (values vs) = values (o ∷ vs)
+prepend o (fault f p) = fault f p
+
+-- ---- one element, from the bytes after its tag: its value and how many bytes its length and value take, or the first rule broken: 11, 12, 16, the value's
+
+pub data Element : Type 0 where
+  whole : List ℕ → ℕ → Element
+  broken : Fault → Element
+
+abbrev pub ended : List ℕ → ℕ → Rule → Element
+ended v size Kept = whole v size
+ended v size (Breaks f) = broken f
+
+module _ (l : Lengths) (rule : ValueRule) (today : ℕ) where
+  abbrev pub sized : ℕ → List ℕ → Element
+  sized width v = cond (permitted l (length v)) (ended v (width + length v) (ruleOf rule today v)) (broken ElementLength)
+
+  abbrev pub within : Spelt → List ℕ → Element
+  within n s = cond (ltb (length s) (n .number)) (broken Overrun) (sized (n .width) (take (n .number) s))
+
+  abbrev pub measured : Option Spelt → List ℕ → Element
+  measured none s = broken LengthForm
+  measured (some n) s = within n (drop (n .width) s)
+
+  unfoldable pub element : List ℕ → Element
+  element s = measured (readLength s) s
+
+-- ---- the tag that a byte begins
+
+abbrev pub has : ℕ → Table → Bool
+has t [] = false
+has t (r ∷ rs) = cond (eqb t (r .tag)) true (has t rs)
+
+-- one byte, or 5F2F in a table that has it ("there a 5F without 2F after it is 13": it is the tag 5F, which no table has)
+abbrev pub tagHere : Table → ℕ → List ℕ → ℕ
+tagHere all b [] = b
+tagHere all b (x ∷ s) = cond (has 0x5F2F all && (eqb b 0x5F && eqb x 0x2F)) 0x5F2F b
+
+abbrev pub long : ℕ → ℕ
+long t = length (tagBytes t)
+
+-- a tag that stands where it may not, while the rows `rest` of the table `all` are still to come: 15, 14 or 13
+abbrev pub misplaced : Table → Table → ℕ → Fault
+misplaced all rest t = cond (has t rest) MissingRow (cond (has t all) TagOrder UnknownTag)
+
+-- ---- the elements, row by row: the bytes s, which start at the offset `at`, as elements of the rows to come
+
+abbrev pub follow : ℕ → Element → (ℕ → Parsed) → Parsed
+follow at (whole v size) k = prepend (some v) (k size)
+follow at (broken f) k = fault f at
+
+abbrev pub parse : ℕ → Table → Table → ℕ → List ℕ → Parsed
+parse today all [] at [] = values []
+parse today all [] at (b ∷ s) = fault (misplaced all [] (tagHere all b s)) at
+parse today all (r ∷ rs) at [] = cond (r .optional) (prepend none (parse today all rs at [])) (fault MissingRow at)
+parse today all (r ∷ rs) at (b ∷ s) =
+    cond (eqb (tagHere all b s) (r .tag))
+    (follow at (element (r .lengths) (r .rule) today (drop (long (r .tag)) (b ∷ s))) (λ n. parse today all rs (at + (long (r .tag) + n)) (drop (long (r .tag) + n) (b ∷ s))))
+    (cond (r .optional) (prepend none (parse today all rs at (b ∷ s))) (fault (misplaced all (r ∷ rs) (tagHere all b s)) at))
+
+-- ---- the whole: "outer 10, 11, 12 (place 0)"
+
+abbrev pub inner : ℕ → Table → Option Spelt → List ℕ → Parsed
+inner today rows none s = fault LengthForm 0
+inner today rows (some n) s =
+    cond (eqb (length s) (n .width + n .number)) (parse today rows rows (1 + n .width) (drop (n .width) s)) (fault Overrun 0)
+
+abbrev pub outer : ℕ → ℕ → List ℕ → Parsed
+outer kind today [] = fault OuterTag 0
+outer kind today (t ∷ s) = cond (eqb t (outerTag kind)) (inner today (table kind) (readLength s) s) (fault OuterTag 0)
+
+-- "Check: 1, 2, 4, then outer 10, 11, 12 (place 0), then each element"
+unfoldable pub parsed : ℕ → ℕ → List ℕ → Parsed
+parsed kind today c =
+    cond (isKind kind)
+    (cond (isDate today)
+    (cond (leb (length c) largest) (outer kind today c) (fault LargeContainer 0))
+    (fault NoDate 0))
+    (fault UnknownKind 0)
+
+-- ---- the verdict
+
+abbrev pub outcomeOf : Parsed → Outcome
+outcomeOf (values vs) = Fine
+outcomeOf (fault f p) = Broken f p
+
+unfoldable pub outcome : ℕ → ℕ → List ℕ → Outcome
+outcome kind today c = outcomeOf (parsed kind today c)
+
+abbrev pub verdict : ℕ → ℕ → List ℕ → Verdict
+verdict kind today c = verdictOf (outcome kind today c)

@@ -1,0 +1,6 @@
+pub mod Calendars
+pub mod Windows
+pub mod Dates
+pub mod Texts
+pub mod Moments
+pub mod Examples

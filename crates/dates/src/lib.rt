@@ -1,0 +1,138 @@
+// Dates: as the number that a call takes for today, as eight digits of text, as the eight bytes of a header; and the
+// window of an expiry.
+ghost use mathlib.Core.Path.{_≡_};
+ghost use Prim.Native.Nat.{_<_, _≤_};
+ghost use Rattle.dates.specs.Calendar.{leap, daysIn, exists};
+ghost use Rattle.dates.specs.Date.{isDate, isDigit, dateOf, inWindow};
+ghost use Rattle.dates.specs.Moment.{momentOf};
+ghost use Rattle.dates.specs.Pairs.{twoDigits};
+
+// A text date: its eight-digit number.
+pub enum Date {
+    Is(u64),
+    Not,
+}
+
+// A binary date: the number that its eight bytes make, by which moments are in order.
+pub enum Moment {
+    At(u64),
+    Never,
+}
+
+// The days of each month of a common year, the first at 1.
+const MONTH_LENGTHS: [u8; 13] = [0, 31, 28, 31, 30, 31, 30, 31, 31, 30, 31, 30, 31];
+
+fn wide(x: u8) -> u64
+    ensures { λ r. ⌜ (r ≡ x) × (r < 256) ⌝ }
+{
+    x as u64
+}
+
+fn is_leap(year: u64) -> bool
+    ensures { λ r. ⌜ r ≡ leap year ⌝ }
+{
+    (year % 4 == 0) & (year % 100 != 0) | (year % 400 == 0)
+}
+
+// How many days a month of a year has; none, if there is no such month.
+fn days_in(year: u64, month: u64) -> u64
+    ensures { λ r. ⌜ r ≡ daysIn year month ⌝ }
+{
+    if 12 < month {
+        return 0;
+    }
+    let days = wide(MONTH_LENGTHS[month as usize]);
+    if month != 2 {
+        return days;
+    }
+    if is_leap(year) {
+        return days + 1;
+    }
+    days
+}
+
+// "year 0001 to 9999, Gregorian"
+pub fn exists(year: u64, month: u64, day: u64) -> bool
+    ensures { λ r. ⌜ r ≡ exists year month day ⌝ }
+{
+    (1 <= year)
+        & (year <= 9999)
+        & (1 <= month)
+        & (month <= 12)
+        & (1 <= day)
+        & (day <= days_in(year, month))
+}
+
+// "Calls take today as a number": is it a date's?
+pub fn is_date(n: u64) -> bool
+    ensures { λ r. ⌜ r ≡ isDate n ⌝ }
+{
+    exists(n / 10000, n / 100 % 100, n % 100)
+}
+
+fn is_digit(b: u8) -> bool
+    ensures { λ r. ⌜ r ≡ isDigit b ⌝ }
+{
+    (48 <= b) & (b <= 57)
+}
+
+// Two ASCII digits as a number. Bytes that are none give 10,000, which is no year, no month and no day.
+fn two_digits(a: u8, b: u8) -> u64
+    ensures { λ r. ⌜ (r ≡ twoDigits a b) × (r ≤ 10000) ⌝ }
+{
+    if is_digit(a) & is_digit(b) {
+        return (wide(a) - 48) * 10 + (wide(b) - 48);
+    }
+    10000
+}
+
+// "Eight ASCII digits": the date that they are.
+pub fn date_of(s: &[u8]) -> Date
+    ensures { λ r. ⌜ r ≡ dateOf (now (s .entry)) ⌝ }
+{
+    if s.len() != 8 {
+        return Date::Not;
+    }
+    let year = two_digits(s[0], s[1]) * 100 + two_digits(s[2], s[3]);
+    let month = two_digits(s[4], s[5]);
+    let day = two_digits(s[6], s[7]);
+    if !exists(year, month, day) {
+        return Date::Not;
+    }
+    Date::Is(year * 10000 + month * 100 + day)
+}
+
+// "t <= e <= t + 60,000 (six years)"; the sum is not formed, since it need not fit.
+pub fn in_window(today: u64, expiry: u64) -> bool
+    ensures { λ r. ⌜ r ≡ inWindow today expiry ⌝ }
+{
+    if expiry < today {
+        return false;
+    }
+    expiry - today <= 60000
+}
+
+// "century, year (each 0 to 99), month, day (a date as above), hour to 23, minute and second to 59 as bytes, then 5A"
+pub fn moment_of(s: &[u8]) -> Moment
+    ensures { λ r. ⌜ r ≡ momentOf (now (s .entry)) ⌝ }
+{
+    if s.len() != 8 {
+        return Moment::Never;
+    }
+    let century = wide(s[0]);
+    let year = wide(s[1]);
+    let month = wide(s[2]);
+    let day = wide(s[3]);
+    if !((century <= 99) & (year <= 99) & exists(century * 100 + year, month, day)) {
+        return Moment::Never;
+    }
+    let hour = wide(s[4]);
+    let minute = wide(s[5]);
+    let second = wide(s[6]);
+    if !((hour <= 23) & (minute <= 59) & (second <= 59) & (s[7] == 0x5A)) {
+        return Moment::Never;
+    }
+    let date = ((century * 256 + year) * 256 + month) * 256 + day;
+    let time = ((hour * 256 + minute) * 256 + second) * 256 + 0x5A;
+    Moment::At(date * 0x100000000 + time)
+}

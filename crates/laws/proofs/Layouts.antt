@@ -1,0 +1,92 @@
+-- Fields in a row of bytes: what is joined is cut again by its widths, a number's bytes are read as that number. Assumes nothing.
+use Prim.Native.Nat.{ℕ, zero, suc, _+_, _^_, _<_, _≤_}
+use mathlib.Core.Path.{_≡_, refl, sym, ap, _∙_}
+use mathlib.Core.List.{List, [], _∷_, _++_, map, append-assoc}
+use native.Mathlib.Omega.{arith}
+use lib.ListN.{length, getD, take, drop, length-append, length-drop, take-append-drop, drop-of-length-le}
+use lib.Seq.{drop-cons, take-add, take-take, drop-drop, take-append-seam, drop-append-seam, length-take-le}
+use Rattle.laws.specs.Digits.{value}
+use Rattle.laws.specs.Bytes.{Bytes}
+use Rattle.laws.specs.Layout.{number, joined, part, field, cut, total}
+use Rattle.laws.proofs.Bases.{below-take, below-drop, digits-read, value-digits, value-lt}
+
+-- the parts of a cut, joined again, are what was cut
+pub joined-cut : (ws : List ℕ) (at : ℕ) (s : List ℕ) → joined (cut at ws s) ≡ part s at (total ws)
+joined-cut [] at s = refl
+joined-cut (w ∷ ws) at s = rw (take-add, drop-drop, joined-cut ws (at + w) s)
+
+-- what is joined is cut into its parts
+pub cut-joined : (ps : List (List ℕ)) (at : ℕ) (s rest : List ℕ) → drop at s ≡ joined ps ++ rest → cut at (map length ps) s ≡ ps
+cut-joined [] at s rest e = refl
+cut-joined (p ∷ ps) at s rest e =
+    let f : drop at s ≡ p ++ (joined ps ++ rest) = e ∙ append-assoc p (joined ps) rest in
+    let g : drop (at + length p) s ≡ joined ps ++ rest = sym (drop-drop (length p) at s) ∙ rw f (drop-append-seam p (joined ps ++ rest)) in
+    let h : take (length p) (drop at s) ≡ p = rw f (take-append-seam p (joined ps ++ rest)) in
+    rw (h, cut-joined ps (at + length p) s rest g)
+
+pub joined-long : (ps : List (List ℕ)) → length (joined ps) ≡ total (map length ps)
+joined-long [] = refl
+joined-long (p ∷ ps) = rw (length-append, joined-long ps)
+
+pub part-long : (s : List ℕ) (at w : ℕ) → at + w ≤ length s → length (part s at w) ≡ w
+part-long s at w h = length-take-le w (drop at s) (rw length-drop (omega arith))
+
+-- a part of a part
+pub part-part : (s : List ℕ) (at k from n : ℕ) → from + n ≤ k → part (part s at k) from n ≡ part s (at + from) n
+part-part s at k from n h = go from k (drop at s) h ∙ rw drop-drop
+  where
+    go : (from k : ℕ) (l : List ℕ) → from + n ≤ k → take n (drop from (take k l)) ≡ take n (drop from l)
+    go zero k l h = take-take n k l (omega arith)
+    go (suc from) zero l h = absurd (omega arith)
+    go (suc from) (suc k) [] h = refl
+    go (suc from) (suc k) (x ∷ l) h = go from k l (omega arith)
+
+-- what is taken from an offset stands there
+pub front : (s p : List ℕ) (at w : ℕ) → part s at w ≡ p → drop at s ≡ p ++ drop w (drop at s)
+front s p at w e = rw (← e) (sym (take-append-drop w (drop at s)))
+
+-- ---- a list by its entries
+
+-- so many entries of a list, from an index on
+abbrev pub entries : ℕ → ℕ → List ℕ → List ℕ
+entries at zero s = []
+entries at (suc n) s = getD s at 0 ∷ entries (suc at) n s
+
+entries-from : (at n : ℕ) (s : List ℕ) → length s ≡ at + n → drop at s ≡ entries at n s
+entries-from at zero s h = let g : length s ≤ at = omega arith in drop-of-length-le s g
+entries-from at (suc n) s h = drop-cons s at 0 (omega arith) ∙ ap (λ (l : List ℕ). getD s at 0 ∷ l) (entries-from (suc at) n s (omega arith))
+
+-- a list of n elements is its entries
+pub by-entries : (n : ℕ) (s : List ℕ) → length s ≡ n → s ≡ entries 0 n s
+by-entries n s h = entries-from 0 n s (omega arith)
+
+-- ---- numbers in bytes
+
+-- a field's bytes are its number's
+pub read : (s : List ℕ) → Bytes s → (at w : ℕ) → at + w ≤ length s → number w (field s at w) ≡ part s at w
+read s b at w h =
+    rw (part-long s at w h) at (digits-read 256 (omega arith) 0 (part s at w) (below-take 256 w (drop at s) (below-drop 256 at s b)))
+
+pub reads-as : (s : List ℕ) → Bytes s → (at w n : ℕ) → at + w ≤ length s → field s at w ≡ n → number w n ≡ part s at w
+reads-as s b at w n h e = ap (λ (k : ℕ). number w k) (sym e) ∙ read s b at w h
+
+-- and a number's bytes are read as that number
+pub written : (w n : ℕ) (p : List ℕ) → p ≡ number w n → n < 256 ^ w → value 256 p ≡ n
+written w n p e h = rw e (value-digits 256 (omega arith) w n h)
+
+-- a field of w bytes is below 256 to the w
+pub field-small : (s : List ℕ) → Bytes s → (at w : ℕ) → at + w ≤ length s → field s at w < 256 ^ w
+field-small s b at w h = rw (part-long s at w h) at (value-lt 256 (omega arith) (part s at w) (below-take 256 w (drop at s) (below-drop 256 at s b)))
+
+-- a field of one byte
+pub field-one : (s : List ℕ) (at : ℕ) → at < length s → field s at 1 ≡ getD s at 0
+field-one s at h = rw (drop-cons s at 0 h) (omega arith)
+
+-- ---- field by field: an equation of lists of fields is made of equations, and taken apart again
+
+infixr 5 _then_
+pub _then_ : {x y : List ℕ} {xs ys : List (List ℕ)} → x ≡ y → xs ≡ ys → _≡_ {A = List (List ℕ)} (x ∷ xs) (y ∷ ys)
+p then q = rw (p, q)
+
+pub nth : {xs ys : List (List ℕ)} → xs ≡ ys → (k : ℕ) → getD xs k [] ≡ getD ys k []
+nth e k = ap (λ (l : List (List ℕ)). getD l k []) e

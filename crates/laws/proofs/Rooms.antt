@@ -1,0 +1,110 @@
+-- Texts that are put into a room one after the other, each into the rest that is lent; and a text over zeros. Assumes nothing.
+use mathlib.Core.Path.{_≡_, refl, ap, _∙_}
+use mathlib.Core.Logic.{_⊎_, inl, inr, ⊎-elim}
+use mathlib.Core.List.{List, [], _∷_, _++_, append-nil}
+use Prim.Native.Nat.{ℕ, zero, suc, _+_, _-_, _≤_, suc-le-suc}
+use native.Mathlib.Nat.{not-suc-le-zero, zero-add, suc-add, sub-zero, suc-sub-suc, le-of-suc-le-suc}
+use native.Mathlib.Omega.{arith}
+use lib.ListN.{length, set, take, drop, drop-of-length-le, length-drop, length-append, length-replicate}
+use lib.Seq.{take-all}
+use borrow.Rule.Slice.PartMut.{midOf, putMid}
+use Rattle.laws.specs.Room.{zeros, filled, laid, taken, Put}
+
+laid-nil : (p : List ℕ) → laid p [] ≡ []
+laid-nil [] = refl
+laid-nil (x ∷ p) = refl
+
+taken-nil : (p : List ℕ) → taken p [] ≡ 0
+taken-nil [] = refl
+taken-nil (x ∷ p) = refl
+
+laid-laid : (p q d : List ℕ) → take (taken p d) (laid p d) ++ laid q (drop (taken p d) (laid p d)) ≡ laid (p ++ q) d
+laid-laid [] q d = refl
+laid-laid (x ∷ p) q [] = laid-nil q
+laid-laid (x ∷ p) q (y ∷ d) = ap (λ (l : List ℕ). x ∷ l) (laid-laid p q d)
+
+taken-taken : (p q d : List ℕ) → taken p d + taken q (drop (taken p d) (laid p d)) ≡ taken (p ++ q) d
+taken-taken [] q d = zero-add _
+taken-taken (x ∷ p) q [] = zero-add _ ∙ taken-nil q
+taken-taken (x ∷ p) q (y ∷ d) = suc-add _ _ ∙ ap suc (taken-taken p q d)
+
+taken-le : (p d : List ℕ) → taken p d ≤ length d
+taken-le [] d = omega arith
+taken-le (x ∷ p) [] = omega arith
+taken-le (x ∷ p) (y ∷ d) = suc-le-suc (taken-le p d)
+
+length-laid : (p d : List ℕ) → length (laid p d) ≡ length d
+length-laid [] d = refl
+length-laid (x ∷ p) [] = refl
+length-laid (x ∷ p) (y ∷ d) = ap suc (length-laid p d)
+
+-- ---- one byte, nothing, and one text after the other
+
+pub byte-out : (b : ℕ) (d : List ℕ) → length d ≡ 0 → Put (b ∷ []) d d 0
+byte-out b [] h = record { room = refl; count = refl; inside = omega arith }
+byte-out b (y ∷ d) h = absurd (omega arith)
+
+pub byte-in : (b : ℕ) (d : List ℕ) → (length d ≡ 0 → ⊥) → Put (b ∷ []) d (set d 0 b) 1
+byte-in b [] h = absurd (h refl)
+byte-in b (y ∷ d) h = record { room = refl; count = refl; inside = omega arith }
+
+pub nothing : (d : List ℕ) → Put [] d d 0
+nothing d = record { room = refl; count = refl; inside = omega arith }
+
+-- a copy of as much of the text p as the room d takes
+pub copied : (p d : List ℕ) (n : ℕ) → n ≤ length p → n ≤ length d → (n ≡ length p) ⊎ (n ≡ length d) → Put p d (take n p ++ drop n d) n
+copied p d n h g o = let c = go p d n h g o in record { room = c .0; count = c .1; inside = g }
+  where
+    go : (p d : List ℕ) (n : ℕ) → n ≤ length p → n ≤ length d → (n ≡ length p) ⊎ (n ≡ length d) → (take n p ++ drop n d ≡ laid p d) × (n ≡ taken p d)
+    go [] d zero h g o = (refl, refl)
+    go [] d (suc n) h g o = absurd (not-suc-le-zero h)
+    go (x ∷ p) [] zero h g o = (refl, refl)
+    go (x ∷ p) (y ∷ d) zero h g o = absurd (⊎-elim (λ e. omega arith) (λ e. omega arith) o)
+    go (x ∷ p) [] (suc n) h g o = absurd (not-suc-le-zero g)
+    go (x ∷ p) (y ∷ d) (suc n) h g o =
+        let o′ : (n ≡ length p) ⊎ (n ≡ length d) = ⊎-elim (λ e. inl (omega arith)) (λ e. inr (omega arith)) o in
+        let c = go p d n (le-of-suc-le-suc h) (le-of-suc-le-suc g) o′ in
+        (ap (λ (l : List ℕ). x ∷ l) (c .0), ap suc (c .1))
+
+-- the text p, and then q into the rest that is lent, are the two in a row
+pub then : {p q d e ys : List ℕ} {m n : ℕ} → Put p d e m → Put q (midOf m (length e - m) e) ys n → Put (p ++ q) d (putMid m (length e - m) e ys) (m + n)
+then {p} {q} {d} {e} {ys} {m} {n} v w =
+    let l : length (drop m e) ≤ length e - m = omega (arith, length-drop m e) in
+    let room : ys ≡ laid q (drop m e) = w .room ∙ rw (take-all _ _ l) in
+    let count : n ≡ taken q (drop m e) = w .count ∙ rw (take-all _ _ l) in
+    let all : m + n ≡ taken (p ++ q) d = rw (count, v .count, v .room) (taken-taken p q d) in
+    record {
+      room = rw (drop-of-length-le _ l, append-nil, room, v .count, v .room) (laid-laid p q d);
+      count = all;
+      inside = omega (arith, all, taken-le (p ++ q) d);
+    }
+
+-- the room keeps its length
+pub same-room : {p d e : List ℕ} {n : ℕ} → Put p d e n → length e ≡ length d
+same-room {p} {d} v = ap length (v .room) ∙ length-laid p d
+
+-- ---- zeros
+
+laid-zeros : (p : List ℕ) (n : ℕ) → length p ≤ n → laid p (zeros n) ≡ p ++ zeros (n - length p)
+laid-zeros [] n h = rw sub-zero
+laid-zeros (x ∷ p) zero h = absurd (omega arith)
+laid-zeros (x ∷ p) (suc n) h = rw suc-sub-suc (ap (λ (l : List ℕ). x ∷ l) (laid-zeros p n (le-of-suc-le-suc h)))
+
+taken-zeros : (p : List ℕ) (n : ℕ) → length p ≤ n → taken p (zeros n) ≡ length p
+taken-zeros [] n h = refl
+taken-zeros (x ∷ p) zero h = absurd (omega arith)
+taken-zeros (x ∷ p) (suc n) h = ap suc (taken-zeros p n (le-of-suc-le-suc h))
+
+-- a whole text into a room that was cleared: the text, and zeros behind it
+pub put-filled : {p d e : List ℕ} {k n : ℕ} → d ≡ zeros k → length p ≤ k → Put p d e n → (e ≡ filled p k) × (n ≡ length p)
+unfolding filled
+put-filled {p} {d} {e} {k} {n} z h v = (rw z at (v .room) ∙ laid-zeros p k h, rw z at (v .count) ∙ taken-zeros p k h)
+
+-- no text at all: zeros
+pub filled-none : (n : ℕ) → zeros n ≡ filled [] n
+unfolding filled
+filled-none n = rw sub-zero
+
+pub length-filled : (p : List ℕ) (n : ℕ) → length p ≤ n → length (filled p n) ≡ n
+unfolding filled
+length-filled p n h = rw (length-append, length-replicate) (omega arith)

@@ -1,0 +1,4 @@
+pub mod SignedByte
+pub mod Exact
+pub mod Creators
+pub mod Examples

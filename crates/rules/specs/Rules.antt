@@ -1,0 +1,69 @@
+-- 01, "Values": what each rule of the tables says of a value, under a date; and the fault that breaking it is.
+use Prim.Native.Nat.{ℕ}
+use mathlib.Core.Path.{_≡_}
+use mathlib.Core.List.{List, [], _∷_}
+use lib.ListN.{length}
+use Rattle.laws.specs.Tests.{same}
+use Rattle.laws.specs.Format.{judge}
+use Rattle.verdicts.specs.Verdicts.{unless, ruled}
+use Rattle.verdicts.specs.declared.Rule.{Rule}
+use Rattle.verdicts.specs.declared.Rule.the-variants.{Kept, Breaks}
+use Rattle.verdicts.specs.declared.Fault.the-variants.{BadFascn, BadUuid, BadDate, BadFixed, BadText}
+use Rattle.kinds.specs.declared.ValueRule.{ValueRule}
+use Rattle.kinds.specs.declared.ValueRule.the-variants.{Free, Fascn, Uuid, Expiry, Model, Application, Policy, Text, Date, Fingers, Face}
+use Rattle.fascn.specs.Fascn.{IsFascn}
+use Rattle.fascn.specs.Reading.{isFascn}
+use Rattle.dates.specs.Date.{Reads, IsTextDate, InWindow, dateOf, inWindow}
+use Rattle.dates.specs.declared.Date.{Date as TextDate}
+use Rattle.dates.specs.declared.Date.the-variants.{Is, Not}
+use Rattle.plain.specs.Plain.{Uuid as IsUuid, isUuid, IsPolicy, isPolicy, Text as IsText, isText}
+use Rattle.cbeff.specs.Header.{fingers, face, header, IsBiometric}
+
+-- "4F 11, value A0 00 00 03 08 00 00 10 00 01 00"
+abbrev pub application : List ℕ
+application = 0xA0 ∷ 0x00 ∷ 0x00 ∷ 0x03 ∷ 0x08 ∷ 0x00 ∷ 0x00 ∷ 0x10 ∷ 0x00 ∷ 0x01 ∷ 0x00 ∷ []
+
+-- "F5 1, value 10 hex"
+abbrev pub model : List ℕ
+model = 0x10 ∷ []
+
+-- a value keeps a rule under the date today
+abbrev pub Keeps : ValueRule → ℕ → List ℕ → Type 0
+Keeps Free today v = Unit {0}
+Keeps Fascn today v = IsFascn v
+Keeps Uuid today v = IsUuid v
+Keeps Expiry today v = (expiry : ℕ) × Reads v expiry × InWindow today expiry
+Keeps Model today v = v ≡ model
+Keeps Application today v = v ≡ application
+Keeps Policy today v = IsPolicy v
+Keeps Text today v = IsText v
+Keeps Date today v = IsTextDate v
+Keeps Fingers today v = IsBiometric fingers v
+Keeps Face today v = IsBiometric face v
+
+-- ---- the same as tests, each with its fault
+
+-- "17, 18, 19: FASC-N, UUID, text date (expiry window included)"
+abbrev pub expires : ℕ → TextDate → Rule
+expires today (Is e) = unless BadDate (inWindow today e)
+expires today Not = Breaks BadDate
+
+abbrev pub dated : TextDate → Rule
+dated (Is n) = Kept
+dated Not = Breaks BadDate
+
+abbrev pub tested : ValueRule → ℕ → List ℕ → Rule
+tested Free today v = Kept
+tested Fascn today v = unless BadFascn (isFascn v)
+tested Uuid today v = unless BadUuid (isUuid v)
+tested Expiry today v = expires today (dateOf v)
+tested Model today v = unless BadFixed (same v model)
+tested Application today v = unless BadFixed (same v application)
+tested Policy today v = unless BadFixed (isPolicy v)
+tested Text today v = unless BadText (isText v)
+tested Date today v = dated (dateOf v)
+tested Fingers today v = ruled (judge (header fingers (length v)) 0 v)
+tested Face today v = ruled (judge (header face (length v)) 0 v)
+
+unfoldable pub ruleOf : ValueRule → ℕ → List ℕ → Rule
+ruleOf rule today v = tested rule today v

@@ -1,0 +1,62 @@
+// The rule of a value, by its name in the tables.
+ghost use mathlib.Core.Path.{_≡_};
+ghost use Rattle.verdicts.specs.Verdicts.{unless};
+ghost use Rattle.rules.specs.Rules.{expires, dated, ruleOf};
+use cbeff::face;
+use cbeff::fingers;
+use dates::Date;
+use kinds::ValueRule;
+use verdicts::Fault;
+use verdicts::Rule;
+
+// What a test with one fault answers.
+fn unless(f: Fault, kept: bool) -> Rule
+    ensures { λ r. ⌜ r ≡ unless f kept ⌝ }
+{
+    if kept {
+        return Rule::Kept;
+    }
+    Rule::Breaks(f)
+}
+
+// "CHUID expiry e and today t": a date, and in its window.
+fn expiry(today: u64, d: Date) -> Rule
+    ensures { λ r. ⌜ r ≡ expires today d ⌝ }
+{
+    match d {
+        Date::Is(e) => unless(Fault::BadDate, dates::in_window(today, e)),
+        Date::Not => Rule::Breaks(Fault::BadDate),
+    }
+}
+
+// "The printed date only has to be a date."
+fn date(d: Date) -> Rule
+    ensures { λ r. ⌜ r ≡ dated d ⌝ }
+{
+    match d {
+        Date::Is(_) => Rule::Kept,
+        Date::Not => Rule::Breaks(Fault::BadDate),
+    }
+}
+
+// Whether a value keeps the rule under the date today, or which fault it has.
+pub fn judge(rule: ValueRule, today: u64, v: &[u8]) -> Rule
+    ensures { λ r. ⌜ r ≡ ruleOf rule today (now (v .entry)) ⌝ }
+{
+    match rule {
+        ValueRule::Free => Rule::Kept,
+        ValueRule::Fascn => unless(Fault::BadFascn, fascn::is_fascn(v)),
+        ValueRule::Uuid => unless(Fault::BadUuid, plain::is_uuid(v)),
+        ValueRule::Expiry => expiry(today, dates::date_of(v)),
+        ValueRule::Model => unless(Fault::BadFixed, plain::same(v, b"\x10")),
+        ValueRule::Application => unless(
+            Fault::BadFixed,
+            plain::same(v, b"\xA0\x00\x00\x03\x08\x00\x00\x10\x00\x01\x00"),
+        ),
+        ValueRule::Policy => unless(Fault::BadFixed, plain::is_policy(v)),
+        ValueRule::Text => unless(Fault::BadText, plain::is_text(v)),
+        ValueRule::Date => date(dates::date_of(v)),
+        ValueRule::Fingers => cbeff::judge(fingers(), v),
+        ValueRule::Face => cbeff::judge(face(), v),
+    }
+}

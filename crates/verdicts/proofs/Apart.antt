@@ -1,0 +1,73 @@
+-- No two faults have one number, and none has 0: so a verdict tells its outcome. Assumes nothing.
+use Prim.Native.Nat.{ℕ}
+use mathlib.Core.Path.{_≡_, refl, sym, ap, _∙_}
+use mathlib.Core.List.{List, [], _∷_}
+use native.Mathlib.Omega.{arith}
+use lib.ListN.{getD}
+use Rattle.verdicts.specs.declared.Fault.{Fault}
+use Rattle.verdicts.specs.declared.Fault.the-variants.{UnknownKind, NoDate, SmallRoom, LargeContainer, TornSheet, NoElement, LongNumber, LongReport, OuterTag, LengthForm, Overrun, UnknownTag, TagOrder, MissingRow, ElementLength, BadFascn, BadUuid, BadDate, BadFixed, BadHeader, BadMinutiae, BadText}
+use Rattle.verdicts.specs.declared.Outcome.{Outcome}
+use Rattle.verdicts.specs.declared.Outcome.the-variants.{Fine, Broken}
+use Rattle.verdicts.specs.declared.Verdict.{Verdict}
+use Rattle.verdicts.specs.Verdicts.{numberOf, verdictOf}
+
+-- the outcomes by their numbers, each at the place 0
+byNumber : List Outcome
+byNumber =
+    Fine ∷ b UnknownKind ∷ b NoDate ∷ b SmallRoom ∷ b LargeContainer ∷ b TornSheet ∷ b NoElement ∷ b LongNumber ∷ b LongReport ∷ Fine ∷ b OuterTag
+    ∷ b LengthForm ∷ b Overrun ∷ b UnknownTag ∷ b TagOrder ∷ b MissingRow ∷ b ElementLength ∷ b BadFascn ∷ b BadUuid ∷ b BadDate ∷ b BadFixed
+    ∷ b BadHeader ∷ b BadMinutiae ∷ b BadText ∷ []
+  where
+    b : Fault → Outcome
+    b f = Broken f 0
+
+-- a fault is found at its number
+found : (f : Fault) → getD byNumber (numberOf f) Fine ≡ Broken f 0
+unfolding byNumber
+found f =
+    elim f [
+      | UnknownKind ↦ refl
+      | NoDate ↦ refl
+      | SmallRoom ↦ refl
+      | LargeContainer ↦ refl
+      | TornSheet ↦ refl
+      | NoElement ↦ refl
+      | LongNumber ↦ refl
+      | LongReport ↦ refl
+      | OuterTag ↦ refl
+      | LengthForm ↦ refl
+      | Overrun ↦ refl
+      | UnknownTag ↦ refl
+      | TagOrder ↦ refl
+      | MissingRow ↦ refl
+      | ElementLength ↦ refl
+      | BadFascn ↦ refl
+      | BadUuid ↦ refl
+      | BadDate ↦ refl
+      | BadFixed ↦ refl
+      | BadHeader ↦ refl
+      | BadMinutiae ↦ refl
+      | BadText ↦ refl
+    ]
+
+pub never-zero : (f : Fault) → numberOf f ≡ 0 → ⊥
+unfolding byNumber
+never-zero f e =
+    let p : Broken f 0 ≡ Fine = sym (found f) ∙ ap (λ (n : ℕ). getD byNumber n Fine) e in
+    let z : _≡_ {A = ℕ} 0 1 = cc in
+    omega arith
+
+pub one-fault : (f g : Fault) → numberOf f ≡ numberOf g → f ≡ g
+one-fault f g e =
+    let p : Broken f 0 ≡ Broken g 0 = sym (found f) ∙ ap (λ (n : ℕ). getD byNumber n Fine) e ∙ found g in
+    cc
+
+-- two outcomes with one verdict are the same
+pub one-outcome : (o p : Outcome) → verdictOf o ≡ verdictOf p → o ≡ p
+one-outcome Fine Fine e = refl
+one-outcome Fine (Broken g q) e = absurd (never-zero g (sym (ap (λ (v : Verdict). v .number) e)))
+one-outcome (Broken f p) Fine e = absurd (never-zero f (ap (λ (v : Verdict). v .number) e))
+one-outcome (Broken f p) (Broken g q) e =
+    let h : f ≡ g = one-fault f g (ap (λ (v : Verdict). v .number) e) in
+    let k : p ≡ q = ap (λ (v : Verdict). v .place) e in
+    cc

@@ -1,0 +1,27 @@
+-- The ways out of a call that writes into a room which it cleared first. Assumes nothing.
+use Prim.Native.Nat.{ℕ, _≤_}
+use mathlib.Core.Path.{_≡_, sym, _∙_}
+use mathlib.Core.List.{List}
+use lib.ListN.{length}
+use Rattle.laws.specs.Room.{zeros, Put}
+use Rattle.laws.proofs.Rooms.{put-filled, filled-none}
+use Rattle.verdicts.specs.Verdicts.{numberOf}
+use Rattle.verdicts.specs.Output.{Output, refusal, text, Leaves}
+use Rattle.verdicts.specs.declared.Fault.{Fault}
+use Rattle.verdicts.specs.declared.Done.{Done}
+
+-- a refusal: the room as it was cleared
+pub refuses : {o : Output} {f : Fault} {p : ℕ} (d : List ℕ) {e : List ℕ} {r : Done} → o ≡ refusal f p → e ≡ zeros (length d)
+    → r ≡ record { number = numberOf f; place = p; length = 0 } → Leaves o d e r
+refuses d q z a = record { answer = a ∙ rw q; room = z ∙ filled-none (length d) ∙ rw q }
+
+-- a success: the whole text over the zeros
+pub gives : {o : Output} {t : List ℕ} (d : List ℕ) {z e : List ℕ} {n : ℕ} {r : Done} → o ≡ text t → z ≡ zeros (length d) → length t ≤ length d → Put t z e n
+    → r ≡ record { number = 0; place = 0; length = n } → Leaves o d e r
+gives d q z h w a =
+    let p = put-filled z h w in
+    record { answer = a ∙ rw (p .1, q); room = p .0 ∙ rw q }
+
+-- two answers to the same output, in rooms of one length, are the same: number, place, length and each byte
+pub settled : (o : Output) (d₁ d₂ : List ℕ) {e₁ e₂ : List ℕ} {r₁ r₂ : Done} → length d₁ ≡ length d₂ → Leaves o d₁ e₁ r₁ → Leaves o d₂ e₂ r₂ → (r₁ ≡ r₂) × (e₁ ≡ e₂)
+settled o d₁ d₂ h l m = (l .answer ∙ sym (m .answer), l .room ∙ rw h (sym (m .room)))

@@ -1,0 +1,30 @@
+-- What a call that writes into a lent room answers, and what it leaves there. Demand 1: "A refusal leaves the lent output room all zeros; a success
+-- leaves zeros after the last byte of output."
+use Prim.Native.Nat.{ℕ}
+use mathlib.Core.Path.{_≡_}
+use mathlib.Core.List.{List, []}
+use lib.ListN.{length}
+use Rattle.laws.specs.Room.{filled}
+use Rattle.verdicts.specs.Verdicts.{numberOf}
+use Rattle.verdicts.specs.declared.Fault.{Fault}
+use Rattle.verdicts.specs.declared.Done.{Done}
+
+-- a refusal with its place, or the output
+pub data Output : Type 0 where
+  refusal : Fault → ℕ → Output
+  text : List ℕ → Output
+
+-- the bytes that are written
+abbrev pub bytesOf : Output → List ℕ
+bytesOf (refusal f p) = []
+bytesOf (text t) = t
+
+-- the number, the place, and the length of what was written, 0 on a refusal
+abbrev pub doneOf : Output → Done
+doneOf (refusal f p) = record { number = numberOf f; place = p; length = 0 }
+doneOf (text t) = record { number = 0; place = 0; length = length t }
+
+-- the whole answer, of a room that was d and is left as e: nothing of it is open
+pub record Leaves (o : Output) (d e : List ℕ) (r : Done) : Type 0 where
+  pub answer : r ≡ doneOf o
+  pub room : e ≡ filled (bytesOf o) (length d)

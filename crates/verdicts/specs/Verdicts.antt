@@ -1,0 +1,51 @@
+-- 01, "Numbers": the number of each fault; and the verdict, a number and a place.
+use Prim.Native.Nat.{ℕ}
+use Rattle.verdicts.specs.declared.Fault.{Fault}
+use Rattle.verdicts.specs.declared.Fault.the-variants.{UnknownKind, NoDate, SmallRoom, LargeContainer, TornSheet, NoElement, LongNumber, LongReport, OuterTag, LengthForm, Overrun, UnknownTag, TagOrder, MissingRow, ElementLength, BadFascn, BadUuid, BadDate, BadFixed, BadHeader, BadMinutiae, BadText}
+use Rattle.verdicts.specs.declared.Outcome.{Outcome}
+use Rattle.verdicts.specs.declared.Outcome.the-variants.{Fine, Broken}
+use Rattle.verdicts.specs.declared.Rule.{Rule}
+use Rattle.verdicts.specs.declared.Rule.the-variants.{Kept, Breaks}
+use Rattle.verdicts.specs.declared.Verdict.{Verdict}
+use Rattle.laws.specs.Format.{Judged, kept, breaks}
+use mathlib.Core.Bool.{Bool, cond}
+
+abbrev pub numberOf : Fault → ℕ
+numberOf UnknownKind = 1  -- kind not 1 to 7
+numberOf NoDate = 2  -- today is no date
+numberOf SmallRoom = 3  -- room too small
+numberOf LargeContainer = 4  -- container over 32,768 bytes, given or to be written
+numberOf TornSheet = 5  -- sheet cut short or with bytes left over
+numberOf NoElement = 6  -- view: element absent, or tag not of the kind
+numberOf LongNumber = 7  -- FASC-N encoding: a number has too many digits
+numberOf LongReport = 8  -- report over 512 bytes
+numberOf OuterTag = 10  -- outer tag missing or wrong
+numberOf LengthForm = 11  -- length cut short or not in the permitted form
+numberOf Overrun = 12  -- value runs past its enclosure, or outer end is not the container's end
+numberOf UnknownTag = 13  -- tag not in the kind's table
+numberOf TagOrder = 14  -- row is that of the element before, or an earlier one
+numberOf MissingRow = 15  -- mandatory row passed over, or missing at the end
+numberOf ElementLength = 16  -- element length
+numberOf BadFascn = 17  -- FASC-N
+numberOf BadUuid = 18  -- UUID
+numberOf BadDate = 19  -- text date (expiry window included)
+numberOf BadFixed = 20  -- other fixed value or policy
+numberOf BadHeader = 21  -- CBEFF header
+numberOf BadMinutiae = 22  -- minutiae
+numberOf BadText = 23  -- text byte
+
+-- "0: conforms or done"; else the fault's number and its place
+abbrev pub verdictOf : Outcome → Verdict
+verdictOf Fine = record { number = 0; place = 0 }
+verdictOf (Broken f place) = record { number = numberOf f; place = place }
+
+-- ---- the answer of a rule
+
+-- of a test with one fault
+abbrev pub unless : Fault → Bool → Rule
+unless f test = cond test Kept (Breaks f)
+
+-- of a judge that goes through a table
+abbrev pub ruled : Judged Fault → Rule
+ruled kept = Kept
+ruled (breaks f) = Breaks f
