@@ -1,0 +1,1 @@
+// No code: what the bench promises, as theorems in proofs/.

@@ -1,0 +1,40 @@
+-- 01, "Sheets, views and the report": numbers as text. "Hex is upper case. Numbers are decimal without leading zeros, except today and expires (eight
+-- digits) and agency and system (four). Each line ends in 0A."
+use Prim.Native.Nat.{ℕ, zero, suc, _+_, _/_, _%_}
+use Prim.Native.Char.{code}
+use Prim.Native.String.{String, [] as empty, _∷_ as char-then}
+use mathlib.Core.Bool.{cond}
+use mathlib.Core.List.{List, [], _∷_, _++_, map}
+use lib.Dec.{ltb}
+use Rattle.laws.specs.Digits.{digits}
+
+-- the bytes of an ASCII text
+abbrev pub ascii : String → List ℕ
+ascii empty = []
+ascii (char-then c s) = code c ∷ ascii s
+
+-- a digit 0 to 9, and 0 to 15, as a byte
+abbrev pub digit : ℕ → ℕ
+digit d = 48 + d
+
+abbrev pub hexDigit : ℕ → ℕ
+hexDigit d = cond (ltb d 10) (48 + d) (55 + d)
+
+-- the last w decimal digits of n
+unfoldable pub fixed : ℕ → ℕ → List ℕ
+fixed w n = map digit (digits 10 w n)
+
+-- n without leading zeros, for an n below 10 ^ (f + 1)
+abbrev pub decimalIn : ℕ → ℕ → List ℕ
+decimalIn zero n = digit (n % 10) ∷ []
+decimalIn (suc f) n = cond (ltb n 10) (digit (n % 10) ∷ []) (decimalIn f (n / 10) ++ digit (n % 10) ∷ [])
+
+unfoldable pub decimal : ℕ → List ℕ
+decimal n = decimalIn n n
+
+-- a byte as two hex digits, and a tag as two or four
+unfoldable pub hex2 : ℕ → List ℕ
+hex2 b = hexDigit (b / 16 % 16) ∷ hexDigit (b % 16) ∷ []
+
+unfoldable pub hexTag : ℕ → List ℕ
+hexTag t = cond (ltb t 256) (hex2 t) (hex2 (t / 256) ++ hex2 (t % 256))

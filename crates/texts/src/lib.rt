@@ -1,0 +1,86 @@
+// 01, "Sheets, views and the report": numbers as text, put into a lent room. "Hex is upper case. Numbers are decimal
+// without leading zeros, except today and expires (eight digits) and agency and system (four)." Where the room ends, so
+// does the text: no writer asks anything of its caller.
+ghost use mathlib.Core.Path.{_≡_};
+ghost use Prim.Native.Nat.{_<_};
+ghost use lib.ListN.{set};
+ghost use Rattle.laws.specs.Room.{Put};
+ghost use Rattle.texts.specs.Text.{fixed, decimal, hexDigit, hex2, hexTag};
+use room::put_byte;
+
+// One byte at its place, where the room has that place.
+fn store(b: u8, at: usize, out: &mut [u8])
+    ensures { λ _. ⌜ now (out .exit) ≡ set (now (out .entry)) at b ⌝ }
+{
+    if at < out.len() {
+        out[at] = b;
+    }
+}
+
+// The last `width` digits of n. They come lowest first, so they are laid from the last place to the first: no byte is
+// written twice, and no call nests.
+pub fn put_fixed(width: usize, n: u64, out: &mut [u8]) -> usize
+    ensures { λ r. ⌜ Put (fixed width n) (now (out .entry)) (now (out .exit)) r ⌝ }
+{
+    let mut rest = n;
+    let mut i = width;
+    while 0 < i {
+        i -= 1;
+        store(48 + (rest % 10) as u8, i, out);
+        rest /= 10;
+    }
+    if width < out.len() {
+        return width;
+    }
+    out.len()
+}
+
+// How many digits n has.
+fn places(n: u64) -> usize
+    ensures { λ r. ⌜ decimal n ≡ fixed r n ⌝ }
+{
+    let mut rest = n;
+    let mut count = 1;
+    while 9 < rest {
+        rest /= 10;
+        count += 1;
+    }
+    count
+}
+
+// n without leading zeros.
+pub fn put_decimal(n: u64, out: &mut [u8]) -> usize
+    ensures { λ r. ⌜ Put (decimal n) (now (out .entry)) (now (out .exit)) r ⌝ }
+{
+    put_fixed(places(n), n, out)
+}
+
+// "Hex is upper case": 0 to 9, and A to F.
+fn hex_digit(d: u8) -> u8
+    requires { ⌜ d < 16 ⌝ }
+    ensures { λ r. ⌜ r ≡ hexDigit d ⌝ }
+{
+    if d < 10 {
+        return 48 + d;
+    }
+    55 + d
+}
+
+// A byte as two hex digits.
+pub fn put_hex(b: u8, out: &mut [u8]) -> usize
+    ensures { λ r. ⌜ Put (hex2 b) (now (out .entry)) (now (out .exit)) r ⌝ }
+{
+    let at = put_byte(hex_digit(b / 16), out);
+    at + put_byte(hex_digit(b % 16), &mut out[at..])
+}
+
+// A tag as two hex digits, or as four.
+pub fn put_tag(tag: u64, out: &mut [u8]) -> usize
+    ensures { λ r. ⌜ Put (hexTag tag) (now (out .entry)) (now (out .exit)) r ⌝ }
+{
+    if tag < 256 {
+        return put_hex(tag as u8, out);
+    }
+    let at = put_hex((tag / 256 % 256) as u8, out);
+    at + put_hex((tag % 256) as u8, &mut out[at..])
+}
