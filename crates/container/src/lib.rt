@@ -27,7 +27,8 @@ enum Step {
     Next(usize, u64),
 }
 
-fn permitted(n: usize, least: usize, most: usize, empty: bool) -> bool
+// Whether a row's lengths permit this one.
+pub fn permitted(n: usize, least: usize, most: usize, empty: bool) -> bool
     ensures { λ r. ⌜ r ≡ permits least most empty n ⌝ }
 {
     ((least <= n) & (n <= most)) | (empty & (n == 0))
@@ -189,7 +190,7 @@ fn elements(kind: u64, today: u64, c: &[u8], start: usize) -> Outcome
 }
 
 // "7E for kind 3, else 53"
-fn outer_tag(kind: u64) -> u8
+pub fn outer_tag(kind: u64) -> u8
     ensures { λ r. ⌜ r ≡ outerTag kind ⌝ }
 {
     if kind == 3 {

@@ -1,7 +1,7 @@
 -- Texts that are put into a room one after the other, each into the rest that is lent; and a text over zeros. Assumes nothing.
-use mathlib.Core.Path.{_≡_, refl, ap, _∙_}
+use mathlib.Core.Path.{_≡_, refl, sym, ap, _∙_}
 use mathlib.Core.Logic.{_⊎_, inl, inr, ⊎-elim}
-use mathlib.Core.List.{List, [], _∷_, _++_, append-nil}
+use mathlib.Core.List.{List, [], _∷_, _++_, append-nil, append-assoc}
 use Prim.Native.Nat.{ℕ, zero, suc, _+_, _-_, _≤_, suc-le-suc}
 use native.Mathlib.Nat.{not-suc-le-zero, zero-add, suc-add, sub-zero, suc-sub-suc, le-of-suc-le-suc}
 use native.Mathlib.Omega.{arith}
@@ -82,6 +82,31 @@ then {p} {q} {d} {e} {ys} {m} {n} v w =
 -- the room keeps its length
 pub same-room : {p d e : List ℕ} {n : ℕ} → Put p d e n → length e ≡ length d
 same-room {p} {d} v = ap length (v .room) ∙ length-laid p d
+
+-- ---- a text that a loop writes, by what is left of it
+
+-- of the text `all` the part `left` is still to write; the rest was put into the room d, and left it as e
+pub record Left (all left d e : List ℕ) (n : ℕ) : Type 0 where
+  pub done : List ℕ
+  pub put : Put done d e n
+  pub split : done ++ left ≡ all
+
+pub begin : (all d : List ℕ) → Left all all d d 0
+begin all d = record { done = []; put = nothing d; split = refl }
+
+-- nothing is written
+pub same : {all left rest d e : List ℕ} {n : ℕ} → left ≡ rest → Left all left d e n → Left all rest d e n
+same e w = rw (← e) w
+
+-- a piece goes into the rest that is lent
+pub step : {all left p rest d e ys : List ℕ} {m n : ℕ} → left ≡ p ++ rest → Left all left d e m → Put p (midOf m (length e - m) e) ys n → Left all rest d (putMid m (length e - m) e ys) (m + n)
+step {p = p} {rest = rest} e w v = record { done = w .done ++ p; put = then (w .put) v; split = append-assoc (w .done) p rest ∙ ap (λ (l : List ℕ). w .done ++ l) (sym e) ∙ w .split }
+
+-- all of it
+pub ended : {all left d e : List ℕ} {n : ℕ} → left ≡ [] → Left all left d e n → Put all d e n
+ended {all} e w =
+    let q : w .done ≡ all = sym (append-nil (w .done)) ∙ ap (λ (l : List ℕ). w .done ++ l) (sym e) ∙ w .split in
+    rw q at (w .put)
 
 -- ---- zeros
 

@@ -1,0 +1,4 @@
+pub mod Rows
+pub mod Sheets
+pub mod Answers
+pub mod Examples

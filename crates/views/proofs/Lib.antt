@@ -1,0 +1,4 @@
+pub mod Seeking
+pub mod Ways
+pub mod Elements
+pub mod Examples

@@ -1,0 +1,40 @@
+-- 01, "Sheets, views and the report": "A view gives the element's value as a part of the caller's container; its place and length are fixed."
+-- "View: check, then 6." "A refused view is an empty part": at the container's start.
+use Prim.Native.Nat.{ℕ, _+_}
+use mathlib.Core.Path.{_≡_}
+use mathlib.Core.Option.{Option, none, some}
+use mathlib.Core.List.{List, []}
+use Rattle.verdicts.specs.Verdicts.{numberOf}
+use Rattle.verdicts.specs.declared.Fault.the-variants.{NoElement}
+use Rattle.kinds.specs.Tables.{table}
+use Rattle.container.specs.Reading.{Parsed, values, fault, parsed}
+use Rattle.container.specs.Places.{Part, start, partOf}
+
+-- the number and its place, and the part: its offset in the container and its bytes
+pub record View : Type 0 where
+  pub number : ℕ
+  pub place : ℕ
+  pub part : Part
+
+abbrev pub nothing : Part
+nothing = record { offset = 0; bytes = [] }
+
+abbrev pub shown : Option Part → View
+shown none = record { number = numberOf NoElement; place = 0; part = nothing }
+shown (some p) = record { number = 0; place = 0; part = p }
+
+abbrev pub viewOf : ℕ → Parsed → ℕ → View
+viewOf kind (values vs) tag = shown (partOf (table kind) vs (start kind vs) tag)
+viewOf kind (fault f p) tag = record { number = numberOf f; place = p; part = nothing }
+
+unfoldable pub viewed : ℕ → ℕ → List ℕ → ℕ → View
+viewed kind today c tag = viewOf kind (parsed kind today c) tag
+
+-- the whole answer of a call: the two numbers that it stores, and the part that it hands out, a block, an offset in it and bytes, of a container that
+-- stands at a block and an offset: nothing of it is open
+pub record Answers (v : View) (container : ℕ × ℕ) (number place : ℕ) (part : ℕ × ℕ) (bytes : List ℕ) : Type 0 where
+  pub number-is : number ≡ v .number
+  pub place-is : place ≡ v .place
+  pub block-is : part .0 ≡ container .0
+  pub offset-is : part .1 ≡ container .1 + v .part .offset
+  pub bytes-are : bytes ≡ v .part .bytes

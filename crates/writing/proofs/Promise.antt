@@ -1,0 +1,189 @@
+-- Demand 2, second half: a sheet is accepted exactly where it is the sheet of allowed values that fit 32,768 bytes, and what is written is their container;
+-- reading and writing undo each other. Assumes nothing.
+use Prim.Native.Nat.{ℕ, _+_, _≤_}
+use mathlib.Core.Path.{_≡_, refl, sym, ap, _∙_}
+use mathlib.Core.Logic.{inl, inr, _↔_}
+use mathlib.Core.Bool.{true}
+use mathlib.Core.Option.{Option, none, some}
+use mathlib.Core.List.{List, [], _∷_}
+use native.Mathlib.Omega.{arith}
+use lib.Dec.{ltb, leb}
+use lib.ListN.{length}
+use borrow.Author.Tests.{le-ltb, le-leb, leb-true, ltb-false}
+use Rattle.laws.specs.Bytes.{Bytes}
+use Rattle.laws.proofs.Cases.{which}
+use Rattle.dates.specs.Date.{isDate}
+use Rattle.dates.proofs.Dates.{date-exact}
+use Rattle.kinds.specs.Tables.{Table, table, permitted, isKind}
+use Rattle.rules.specs.Rules.{ruleOf}
+use Rattle.verdicts.specs.Output.{refusal, text}
+use Rattle.verdicts.specs.declared.Fault.{Fault}
+use Rattle.verdicts.specs.declared.Rule.{Rule}
+use Rattle.verdicts.specs.declared.Rule.the-variants.{Kept, Breaks}
+use Rattle.verdicts.specs.declared.Outcome.{Outcome}
+use Rattle.verdicts.specs.declared.Outcome.the-variants.{Fine, Broken}
+use Rattle.container.specs.Container.{Values, container, Allowed, largest, Conforms}
+use Rattle.container.specs.Reading.{Parsed, values, fault, parsed}
+use Rattle.container.proofs.One.{good-fits, fits-good}
+use Rattle.container.proofs.Promise.{kind-exact, exact, conforms-parsed}
+use Rattle.sheet.specs.Sheet.{sheetOf, Sheeted, IsSheet}
+use Rattle.sheet.specs.Calls.{roomy, readOf, readOutput}
+use Rattle.writing.specs.Writing.{opened, keptOr, judged, sizedOut, judgedOut, openedOut, writeOutput}
+use Rattle.writing.proofs.Sheets.{opened-exact, AllBytes, sheet-values, sheet-bytes, container-bytes, container-values, conforms-sheeted}
+
+-- ---- nothing is broken exactly where the values are allowed
+
+no-fine : {f : Fault} {p : ℕ} → Broken f p ≡ Fine → ⊥
+no-fine e = let z : _≡_ {A = ℕ} 0 1 = cc in omega arith
+
+kept-fine : (x : Rule) (at : ℕ) (later : Outcome) → keptOr x at later ≡ Fine → (x ≡ Kept) × (later ≡ Fine)
+kept-fine Kept at later e = (refl, e)
+kept-fine (Breaks f) at later e = absurd (no-fine e)
+
+fine-allowed : (today : ℕ) (rows : Table) (vs : Values) (at : ℕ) → AllBytes vs → Sheeted rows vs → judged today rows vs at ≡ Fine → Allowed today rows vs
+fine-allowed today [] [] at b h e = tt
+fine-allowed today [] (o ∷ vs) at b h e = absurd h
+fine-allowed today (r ∷ rs) [] at b h e = absurd h
+fine-allowed today (r ∷ rs) (none ∷ vs) at b h e =
+    elim (which (r .optional)) [
+      | inl o ↦ (o, fine-allowed today rs vs (at + 2) b (h .1) (rw o at e))
+      | inr o ↦ absurd (no-fine (rw o at e))
+    ]
+fine-allowed today (r ∷ rs) (some v ∷ vs) at b h e =
+    elim (which (permitted (r .lengths) (length v))) [
+      | inl p ↦
+          let k = kept-fine (ruleOf (r .rule) today v) at (judged today rs vs (at + 2 + length v)) (rw p at e) in
+          (good-fits today r v (b .0) (p, k .0), fine-allowed today rs vs (at + 2 + length v) (b .1) (h .1) (k .1))
+      | inr p ↦ absurd (no-fine (rw p at e))
+    ]
+
+allowed-fine : (today : ℕ) (rows : Table) (vs : Values) (at : ℕ) → AllBytes vs → Allowed today rows vs → judged today rows vs at ≡ Fine
+allowed-fine today [] [] at b a = refl
+allowed-fine today [] (o ∷ vs) at b a = absurd a
+allowed-fine today (r ∷ rs) [] at b a = absurd a
+allowed-fine today (r ∷ rs) (none ∷ vs) at b a = rw (a .0) (allowed-fine today rs vs (at + 2) b (a .1))
+allowed-fine today (r ∷ rs) (some v ∷ vs) at b a =
+    let g = fits-good today r v (b .0) (a .0) in
+    rw (g .0, g .1) (allowed-fine today rs vs (at + 2 + length v) (b .1) (a .1))
+
+pub judged-exact : (today : ℕ) (rows : Table) (vs : Values) (at : ℕ) → AllBytes vs → Sheeted rows vs → (judged today rows vs at ≡ Fine) ↔ Allowed today rows vs
+judged-exact today rows vs at b h = (fine-allowed today rows vs at b h, allowed-fine today rows vs at b)
+
+-- ---- a sheet is accepted, and written as c, exactly where it is the sheet of values that c is the container of, and c goes into the room
+
+no-text : {f : Fault} {p : ℕ} {c : List ℕ} → refusal f p ≡ text c → ⊥
+no-text e = let z : _≡_ {A = ℕ} 0 1 = cc in omega arith
+
+roomy-is : (t : List ℕ) (room : ℕ) (c : List ℕ) → roomy t room ≡ text c → (t ≡ c) × (length t ≤ room)
+roomy-is t room c e =
+    elim (which (ltb room (length t))) [
+      | inl l ↦ absurd (no-text (rw l at e))
+      | inr l ↦ let q : text t ≡ text c = rw l at e in (cc, ltb-false _ _ l)
+    ]
+
+roomy-fits : (t : List ℕ) (room : ℕ) → length t ≤ room → roomy t room ≡ text t
+roomy-fits t room h = rw (le-ltb _ _ h)
+
+sized-is : (t : List ℕ) (room : ℕ) (c : List ℕ) → sizedOut t room ≡ text c → (t ≡ c) × (length t ≤ largest) × (length t ≤ room)
+sized-is t room c e =
+    elim (which (leb (length t) largest)) [
+      | inl l ↦ let k = roomy-is t room c (rw l at e) in (k .0, leb-true _ _ l, k .1)
+      | inr l ↦ absurd (no-text (rw l at e))
+    ]
+
+sized-fits : (t : List ℕ) (room : ℕ) → length t ≤ largest → length t ≤ room → sizedOut t room ≡ text t
+sized-fits t room h k = rw (le-leb _ _ h) (roomy-fits t room k)
+
+judged-is : (o : Outcome) (t : List ℕ) (room : ℕ) (c : List ℕ) → judgedOut o t room ≡ text c → (o ≡ Fine) × (sizedOut t room ≡ text c)
+judged-is Fine t room c e = (refl, e)
+judged-is (Broken f p) t room c e = absurd (no-text e)
+
+opened-is : (kind today : ℕ) (o : Option Values) (room : ℕ) (c : List ℕ) → openedOut kind today o room ≡ text c
+    → (vs : Values) × (o ≡ some vs) × (judgedOut (judged today (table kind) vs 0) (container kind vs) room ≡ text c)
+opened-is kind today none room c e = absurd (no-text e)
+opened-is kind today (some vs) room c e = (vs, refl, e)
+
+module _ (kind today : ℕ) (s : List ℕ) (room : ℕ) (b : Bytes s) (c : List ℕ) where
+  abbrev Accepts : Type 0
+  Accepts = (vs : Values) × IsSheet (table kind) vs s × Conforms kind today vs c × (length c ≤ room)
+
+  accepts : isKind kind ≡ true → isDate today ≡ true → openedOut kind today (opened (table kind) s) room ≡ text c → Accepts
+  accepts k d e =
+      let o = opened-is kind today (opened (table kind) s) room c e in
+      let vs = o .0 in
+      let j = judged-is (judged today (table kind) vs 0) (container kind vs) room c (o .2) in
+      let z = sized-is (container kind vs) room c (j .1) in
+      let i = opened-exact (table kind) s b vs .0 (o .1) in
+      let v : AllBytes vs = sheet-values vs (rw (i .written) at b) in (
+        vs,
+        i,
+        record {
+          kind-is = kind-exact kind .0 k;
+          date-is = date-exact today .0 d;
+          size-is = rw (← z .0) (z .1);
+          allowed = judged-exact today (table kind) vs 0 v (i .sections) .0 (j .0);
+          written = sym (z .0);
+        },
+        rw (← z .0) (z .2),
+      )
+
+  accepted-there : writeOutput kind today s room ≡ text c → Accepts
+  unfolding writeOutput
+  accepted-there e =
+      elim (which (isKind kind)) [
+        | inl k ↦
+            elim (which (isDate today)) [
+              | inl d ↦ accepts k d (rw (k, d) at e)
+              | inr d ↦ absurd (no-text (rw (k, d) at e))
+            ]
+        | inr k ↦ absurd (no-text (rw k at e))
+      ]
+
+  accepted-back : Accepts → writeOutput kind today s room ≡ text c
+  unfolding writeOutput
+  accepted-back a =
+      let vs = a .0 in
+      let i = a .1 in
+      let f = a .2 in
+      let v : AllBytes vs = sheet-values vs (rw (i .written) at b) in
+      let z : sizedOut (container kind vs) room ≡ text c = ap (λ (t : List ℕ). sizedOut t room) (sym (f .written)) ∙ sized-fits c room (f .size-is) (a .3) in
+      rw (
+        kind-exact kind .1 (f .kind-is),
+        date-exact today .1 (f .date-is),
+        opened-exact (table kind) s b vs .1 i,
+        judged-exact today (table kind) vs 0 v (i .sections) .1 (f .allowed),
+      ) z
+
+  pub accepted : (writeOutput kind today s room ≡ text c) ↔ ((vs : Values) × IsSheet (table kind) vs s × Conforms kind today vs c × (length c ≤ room))
+  accepted = (accepted-there, accepted-back)
+
+-- what is written is of bytes
+pub written-bytes : (kind today : ℕ) (s : List ℕ) (room : ℕ) → Bytes s → (c : List ℕ) → writeOutput kind today s room ≡ text c → Bytes c
+written-bytes kind today s room b c e =
+    let a = accepted kind today s room b c .0 e in
+    rw (a .2 .written) (container-bytes kind (a .0) (sheet-values (a .0) (rw (a .1 .written) at b)))
+
+-- ---- the round trips
+
+read-is : (p : Parsed) (room : ℕ) (s : List ℕ) → readOf p room ≡ text s → (vs : Values) × (p ≡ values vs) × (sheetOf vs ≡ s)
+read-is (values vs) room s e = (vs, refl, roomy-is (sheetOf vs) room s e .0)
+read-is (fault f p) room s e = absurd (no-text e)
+
+-- what is read of a container is written as that container
+pub read-write : (kind today : ℕ) (c : List ℕ) → Bytes c → (room₁ room₂ : ℕ) (s : List ℕ) → readOutput kind today c room₁ ≡ text s → length c ≤ room₂ → writeOutput kind today s room₂ ≡ text c
+unfolding readOutput
+read-write kind today c b room₁ room₂ s e h =
+    let r = read-is (parsed kind today c) room₁ s e in
+    let vs = r .0 in
+    let f : Conforms kind today vs c = exact kind today c b vs .0 (r .1) in
+    let v : AllBytes vs = container-values kind today vs (f .allowed) (rw (f .written) at b) in
+    let bs : Bytes s = rw (r .2) at (sheet-bytes vs v) in
+    accepted kind today s room₂ bs c .1 (vs, record { sections = conforms-sheeted kind today vs c f; written = sym (r .2) }, f, h)
+
+-- what is written of a sheet is read as that sheet
+pub write-read : (kind today : ℕ) (s : List ℕ) → Bytes s → (room₁ room₂ : ℕ) (c : List ℕ) → writeOutput kind today s room₁ ≡ text c → length s ≤ room₂ → readOutput kind today c room₂ ≡ text s
+unfolding readOutput
+write-read kind today s b room₁ room₂ c e h =
+    let a = accepted kind today s room₁ b c .0 e in
+    let p : parsed kind today c ≡ values (a .0) = conforms-parsed kind today c (written-bytes kind today s room₁ b c e) (a .0) (a .2) in
+    rw (p, ← a .1 .written) (roomy-fits s room₂ h)

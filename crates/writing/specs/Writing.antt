@@ -1,0 +1,66 @@
+-- "Write: 1, 2, 5, then row by row 15, 16 and the value's rules, with the place of the row's count, then 4, 3."
+use Prim.Native.Nat.{ℕ, _+_, _-_, _*_}
+use mathlib.Core.Bool.{cond}
+use mathlib.Core.Option.{Option, none, some}
+use mathlib.Core.List.{List, [], _∷_}
+use lib.Dec.{ltb, leb, eqb}
+use lib.ListN.{length, take, drop}
+use Rattle.kinds.specs.Tables.{Table, table, permitted, isKind}
+use Rattle.dates.specs.Date.{isDate}
+use Rattle.rules.specs.Rules.{ruleOf}
+use Rattle.verdicts.specs.Output.{Output, refusal}
+use Rattle.verdicts.specs.declared.Fault.the-variants.{UnknownKind, NoDate, LargeContainer, TornSheet, MissingRow, ElementLength}
+use Rattle.verdicts.specs.declared.Rule.{Rule}
+use Rattle.verdicts.specs.declared.Rule.the-variants.{Kept, Breaks}
+use Rattle.verdicts.specs.declared.Outcome.{Outcome}
+use Rattle.verdicts.specs.declared.Outcome.the-variants.{Fine, Broken}
+use Rattle.container.specs.Container.{Values, container, largest}
+use Rattle.sheet.specs.Calls.{roomy}
+
+-- ---- the sheet taken apart, row by row; none where it is cut short or has bytes left over. `proofs/` shows: exactly where it is the sheet of these values
+
+abbrev pub ahead : Option (List ℕ) → Option Values → Option Values
+ahead o none = none
+ahead o (some vs) = some (o ∷ vs)
+
+abbrev pub opened : Table → List ℕ → Option Values
+opened [] [] = some []
+opened [] (b ∷ s) = none
+opened (r ∷ rs) [] = none
+opened (r ∷ rs) (a ∷ []) = none
+opened (r ∷ rs) (a ∷ b ∷ s) =
+    cond (eqb (a * 256 + b) 0) (ahead none (opened rs s))
+    (cond (ltb (length s) (a * 256 + b - 1)) none
+    (ahead (some (take (a * 256 + b - 1) s)) (opened rs (drop (a * 256 + b - 1) s))))
+
+-- ---- the values judged, row by row, with the place of the row's count
+
+abbrev pub keptOr : Rule → ℕ → Outcome → Outcome
+keptOr Kept at later = later
+keptOr (Breaks f) at later = Broken f at
+
+abbrev pub judged : ℕ → Table → Values → ℕ → Outcome
+judged today [] vs at = Fine
+judged today (r ∷ rs) [] at = Fine
+judged today (r ∷ rs) (none ∷ vs) at = cond (r .optional) (judged today rs vs (at + 2)) (Broken MissingRow at)
+judged today (r ∷ rs) (some v ∷ vs) at =
+    cond (permitted (r .lengths) (length v)) (keptOr (ruleOf (r .rule) today v) at (judged today rs vs (at + 2 + length v))) (Broken ElementLength at)
+
+-- ---- the whole
+
+abbrev pub sizedOut : List ℕ → ℕ → Output
+sizedOut c room = cond (leb (length c) largest) (roomy c room) (refusal LargeContainer 0)
+
+abbrev pub judgedOut : Outcome → List ℕ → ℕ → Output
+judgedOut Fine c room = sizedOut c room
+judgedOut (Broken f p) c room = refusal f p
+
+abbrev pub openedOut : ℕ → ℕ → Option Values → ℕ → Output
+openedOut kind today none room = refusal TornSheet 0
+openedOut kind today (some vs) room = judgedOut (judged today (table kind) vs 0) (container kind vs) room
+
+unfoldable pub writeOutput : ℕ → ℕ → List ℕ → ℕ → Output
+writeOutput kind today sheet room =
+    cond (isKind kind)
+    (cond (isDate today) (openedOut kind today (opened (table kind) sheet) room) (refusal NoDate 0))
+    (refusal UnknownKind 0)
