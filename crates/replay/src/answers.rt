@@ -2,6 +2,7 @@
 use crate::lines::wide;
 use fascn::Decoded;
 use fascn::Numbers;
+use verdicts::Done;
 ghost use Prim.Native.Nat.{_≤_};
 ghost use lib.ListN.{length};
 
@@ -39,6 +40,40 @@ fn put_check(kind: u64, today: u64, c: &[u8], out: &mut [u8]) -> usize
     let v = container::check(kind, today, c);
     let at = put_head(v.number, v.place, 0, out);
     put_bytes(b"", out, at)
+}
+
+// What a call wrote, with the whole room.
+fn put_done(d: Done, lent: &[u8], out: &mut [u8]) -> usize
+    ensures { λ r. ⌜ r ≤ length (now (out .entry)) ⌝ }
+{
+    let at = put_head(d.number, d.place, d.length, out);
+    put_bytes(lent, out, at)
+}
+
+// The sheet of a container, and the container of a sheet.
+fn put_read(kind: u64, today: u64, s: &[u8], lent: &mut [u8], out: &mut [u8]) -> usize
+    ensures { λ r. ⌜ r ≤ length (now (out .entry)) ⌝ }
+{
+    let d = sheet::read(kind, today, s, lent);
+    put_done(d, lent, out)
+}
+
+fn put_written(kind: u64, today: u64, s: &[u8], lent: &mut [u8], out: &mut [u8]) -> usize
+    ensures { λ r. ⌜ r ≤ length (now (out .entry)) ⌝ }
+{
+    let d = writing::write(kind, today, s, lent);
+    put_done(d, lent, out)
+}
+
+// One element's value.
+fn put_view(kind: u64, today: u64, tag: u64, c: &[u8], out: &mut [u8]) -> usize
+    ensures { λ r. ⌜ r ≤ length (now (out .entry)) ⌝ }
+{
+    let mut number: u64 = 0;
+    let mut place: u64 = 0;
+    let part = views::view(kind, today, c, tag, &mut number, &mut place);
+    let at = put_head(number, place, part.len() as u64, out);
+    put_bytes(part, out, at)
 }
 
 // A number after a space, and three of them.
@@ -115,6 +150,9 @@ pub fn answer(
 {
     match call {
         1 => put_check(kind, today, s, out),
+        2 => put_read(kind, today, s, lent, out),
+        3 => put_written(kind, today, s, lent, out),
+        4 => put_view(kind, today, tag, s, out),
         6 => put_decoded(fascn::decode(s), out),
         7 => put_encoded(s, lent, out),
         _ => 0,

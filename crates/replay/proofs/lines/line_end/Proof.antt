@@ -1,6 +1,5 @@
 -- `replay::lines::line_end` is safe and ends. Assumes nothing.
 use Prim.Native.Nat.{_-_, _≤_}
-use mathlib.Core.Path.{_≡_}
 use lib.ListN.{length}
 use borrow.Author.Needs.{needs}
 use Rattle.replay.proofs.lines.line_end.Statement.{statement}
