@@ -9,3 +9,4 @@ pub mod Ways
 pub mod Places
 pub mod InOrder
 pub mod Walk
+pub mod Passing

@@ -154,3 +154,13 @@ one-number s m n p q = let e : dateOf s ≡ Is m = text-exact s m .1 p in let f 
 -- a date's number has at most eight digits
 pub eight-digits : (s : List ℕ) (n : ℕ) → Reads s n → n < 100000000
 eight-digits s n r = text-of s n r .1
+
+-- the number that a date's digits make is the date's
+pub text-number : (s : List ℕ) (n : ℕ) → Reads s n → textNumber s ≡ n
+unfolding dateOf
+text-number s n r =
+    let e : dateOf s ≡ Is n = text-exact s n .1 r in
+    elim (which (eqb (length s) 8 && each isDigit s && isDate (textNumber s))) [
+      | inl q ↦ let f : Is (textNumber s) ≡ Is n = rw q at e in cc
+      | inr q ↦ let f : Not ≡ Is n = rw q at e in let z : _≡_ {A = ℕ} 0 1 = cc in absurd (omega arith)
+    ]

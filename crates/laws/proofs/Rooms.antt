@@ -79,6 +79,14 @@ then {p} {q} {d} {e} {ys} {m} {n} v w =
       inside = omega (arith, all, taken-le (p ++ q) d);
     }
 
+-- the same text, said another way
+pub same-text : {p q d e : List ℕ} {n : ℕ} → p ≡ q → Put p d e n → Put q d e n
+same-text h w = rw (← h) w
+
+-- a first piece, and the others as one
+pub first-apart : (a b c d : List ℕ) → a ++ b ++ c ++ d ≡ a ++ (b ++ c ++ d)
+first-apart a b c d = simp append-assoc
+
 -- the room keeps its length
 pub same-room : {p d e : List ℕ} {n : ℕ} → Put p d e n → length e ≡ length d
 same-room {p} {d} v = ap length (v .room) ∙ length-laid p d
@@ -124,6 +132,11 @@ taken-zeros (x ∷ p) (suc n) h = ap suc (taken-zeros p n (le-of-suc-le-suc h))
 pub put-filled : {p d e : List ℕ} {k n : ℕ} → d ≡ zeros k → length p ≤ k → Put p d e n → (e ≡ filled p k) × (n ≡ length p)
 unfolding filled
 put-filled {p} {d} {e} {k} {n} z h v = (rw z at (v .room) ∙ laid-zeros p k h, rw z at (v .count) ∙ taken-zeros p k h)
+
+-- and the other way round
+pub filled-put : (p : List ℕ) (n : ℕ) → length p ≤ n → Put p (zeros n) (filled p n) (length p)
+unfolding filled
+filled-put p n h = record { room = sym (laid-zeros p n h); count = sym (taken-zeros p n h); inside = simp length-replicate h }
 
 -- no text at all: zeros
 pub filled-none : (n : ℕ) → zeros n ≡ filled [] n

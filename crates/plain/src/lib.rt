@@ -6,7 +6,7 @@ ghost use Rattle.plain.specs.Plain.{isUuid, isPolicy, isPrinted, isText,
 ghost use Rattle.plain.specs.Quality.{signed, isQuality};
 
 // Byte i of s, and 0 past its end: no caller has an index to justify.
-fn at(s: &[u8], i: usize) -> u8
+pub fn at(s: &[u8], i: usize) -> u8
     ensures { λ r. ⌜ r ≡ getD (now (s .entry)) i 0 ⌝ }
 {
     if s.len() <= i {

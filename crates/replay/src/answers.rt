@@ -65,6 +65,14 @@ fn put_written(kind: u64, today: u64, s: &[u8], lent: &mut [u8], out: &mut [u8])
     put_done(d, lent, out)
 }
 
+// The desk report.
+fn put_reported(kind: u64, today: u64, s: &[u8], lent: &mut [u8], out: &mut [u8]) -> usize
+    ensures { λ r. ⌜ r ≤ length (now (out .entry)) ⌝ }
+{
+    let d = report::report(kind, today, s, lent);
+    put_done(d, lent, out)
+}
+
 // One element's value.
 fn put_view(kind: u64, today: u64, tag: u64, c: &[u8], out: &mut [u8]) -> usize
     ensures { λ r. ⌜ r ≤ length (now (out .entry)) ⌝ }
@@ -153,6 +161,7 @@ pub fn answer(
         2 => put_read(kind, today, s, lent, out),
         3 => put_written(kind, today, s, lent, out),
         4 => put_view(kind, today, tag, s, out),
+        5 => put_reported(kind, today, s, lent, out),
         6 => put_decoded(fascn::decode(s), out),
         7 => put_encoded(s, lent, out),
         _ => 0,

@@ -2,8 +2,8 @@
 //
 //     CALL KIND TODAY TAG ROOM FILL BYTES
 //
-// numbers in decimal, one space between; CALL is 1 check, 2 read, 3 write, 4 view, 6 FASC-N decode,
-// 7 FASC-N encode; the room has ROOM bytes, each FILL
+// numbers in decimal, one space between; CALL is 1 check, 2 read, 3 write, 4 view, 5 report,
+// 6 FASC-N decode, 7 FASC-N encode; the room has ROOM bytes, each FILL
 // before the call; BYTES in hex. For 7 BYTES are the nine numbers, eight bytes each. An answer is a line
 //
 //     NUMBER PLACE LENGTH BYTES

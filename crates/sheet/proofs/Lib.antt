@@ -1,4 +1,3 @@
-pub mod Rows
 pub mod Sheets
 pub mod Answers
 pub mod Examples

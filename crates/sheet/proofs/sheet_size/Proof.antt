@@ -13,7 +13,7 @@ use Rattle.container.specs.declared.Found.the-variants.{At}
 use Rattle.container.specs.Container.{Values}
 use Rattle.sheet.specs.Sheet.{sheetOf}
 use Rattle.container.proofs.Walk.{row-few}
-use Rattle.sheet.proofs.Rows.{Passed, none-passed, all-passed, absent-passed, value-passed}
+use Rattle.container.proofs.Passing.{Passed, none-passed, all-passed, absent-passed, value-passed}
 use Rattle.sheet.proofs.Sheets.{length-next, length-value}
 use Rattle.sheet.proofs.sheet_size.Statement.{statement}
 use Rattle.sheet.proofs.sheet_size.Tie as tie

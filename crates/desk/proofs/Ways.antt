@@ -1,0 +1,95 @@
+-- What the desk program prints, on each way out of the code. Assumes nothing.
+use Prim.Native.Nat.{ℕ, _-_, _≤_, _<_}
+use mathlib.Core.Path.{_≡_, refl, sym, ap, _∙_}
+use mathlib.Core.Logic.{inl, inr}
+use mathlib.Core.Bool.{Bool, true, false, cond, _||_}
+use mathlib.Core.List.{List, [], _∷_}
+use native.Mathlib.Omega.{arith}
+use lib.Dec.{ltb, leb}
+use lib.ListN.{length, take, drop, length-take, length-drop}
+use borrow.Author.Tests.{ltb-false, leb-true}
+use Rattle.laws.specs.Room.{zeros, filled, Put}
+use Rattle.laws.proofs.Cases.{which}
+use Rattle.laws.proofs.Rooms.{filled-put, filled-none}
+use Rattle.dates.specs.Date.{isDate, dateOf}
+use Rattle.dates.specs.declared.Date.the-variants.{Is, Not}
+use Rattle.kinds.specs.Tables.{isKind}
+use Rattle.verdicts.specs.Verdicts.{numberOf}
+use Rattle.verdicts.specs.Output.{Output, refusal, text, doneOf, bytesOf, Leaves}
+use Rattle.verdicts.specs.declared.Done.{Done}
+use Rattle.verdicts.specs.declared.Fault.{Fault}
+use Rattle.verdicts.proofs.Apart.{never-zero}
+use Rattle.container.specs.Container.{largest}
+use Rattle.container.specs.Reading.{outer}
+use Rattle.report.specs.Report.{reportText}
+use Rattle.report.specs.Calls.{fitting, reportOutput}
+use Rattle.desk.specs.Desk.{kindDigit, dated, deskOutput, refusedText, printed, deskText}
+
+-- ---- the kind's digit
+
+pub no-digit : (s : List ℕ) → length s ≡ 0 → 0 ≡ kindDigit s
+no-digit [] h = refl
+no-digit (b ∷ s) h = absurd (omega arith)
+
+-- ---- what is printed
+
+module _ (s : List ℕ) (room : ℕ) where
+  pub bad-kind : isKind (kindDigit s) ≡ false → refusedText 1 ≡ deskText s room
+  unfolding deskText deskOutput
+  bad-kind k = rw k
+
+  module _ (k : isKind (kindDigit s) ≡ true) where
+    pub no-date : dateOf (take 8 (drop 1 s)) ≡ Not → refusedText 2 ≡ deskText s room
+    unfolding deskText deskOutput
+    no-date d = rw (k, d)
+
+    pub dated-text : {today : ℕ} → dateOf (take 8 (drop 1 s)) ≡ Is today → printed (reportOutput (kindDigit s) today (drop 9 s) room) ≡ deskText s room
+    unfolding deskText deskOutput
+    dated-text d = rw (k, d)
+
+-- ---- a report that was written fits its room
+
+no-refusal : {f : Fault} {p : ℕ} {t : List ℕ} → refusal f p ≡ text t → ⊥
+no-refusal e = let z : _≡_ {A = ℕ} 0 1 = cc in omega arith
+
+fitting-fits : (x t : List ℕ) → fitting x ≡ text t → length t ≤ 512
+fitting-fits x t e =
+    elim (which (ltb 512 (length x))) [
+      | inl h ↦ absurd (no-refusal (rw h at e))
+      | inr h ↦
+          let d : text x ≡ text t = rw h at e in
+          let q : x ≡ t = cc in
+          rw (← q) (ltb-false _ _ h)
+    ]
+
+pub report-fits : (kind today : ℕ) (c : List ℕ) (room : ℕ) (t : List ℕ) → reportOutput kind today c room ≡ text t → length t ≤ room
+unfolding reportOutput
+report-fits kind today c room t e =
+    elim (which (isKind kind)) [
+      | inr k ↦ absurd (no-refusal (rw k at e))
+      | inl k ↦
+          elim (which (isDate today)) [
+            | inr d ↦ absurd (no-refusal (rw (k, d) at e))
+            | inl d ↦
+                elim (which (ltb room 512)) [
+                  | inl r ↦ absurd (no-refusal (rw (k, d, r) at e))
+                  | inr r ↦
+                      elim (which (leb (length c) largest)) [
+                        | inr l ↦ absurd (no-refusal (rw (k, d, r, l) at e))
+                        | inl l ↦
+                            let f = fitting-fits (reportText kind today (length c) (outer kind today c)) t (rw (k, d, r, l) at e) in
+                            let g = ltb-false room 512 r in
+                            omega arith
+                      ]
+                ]
+          ]
+    ]
+
+-- what the report call leaves is what is printed; or its number is printed, into the zeros that it left
+pub shows : (o : Output) (d : List ℕ) {e : List ℕ} {r : Done} → ((t : List ℕ) → o ≡ text t → length t ≤ length d) → Leaves o d e r → r .number ≡ 0 → Put (printed o) (zeros (length d)) e (r .length)
+shows (refusal f p) d fit l z = absurd (never-zero f (sym (ap (λ (x : Done). x .number) (l .answer)) ∙ z))
+shows (text t) d fit l z = rw (l .room, ap (λ (x : Done). x .length) (l .answer)) (filled-put t (length d) (fit t refl))
+
+pub tells : (o : Output) (d : List ℕ) {e : List ℕ} {r : Done} → Leaves o d e r → (r .number ≡ 0 → ⊥) → (printed o ≡ refusedText (r .number)) × (e ≡ zeros (length d))
+tells (refusal f p) d l z = (ap refusedText (sym (ap (λ (x : Done). x .number) (l .answer))), l .room ∙ sym (filled-none (length d)))
+tells (text t) d l z = absurd (z (ap (λ (x : Done). x .number) (l .answer)))

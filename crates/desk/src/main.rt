@@ -1,0 +1,70 @@
+// The desk program: reads one digit for the kind, eight for today and a container from standard input, and prints the report,
+// or `refused N`.
+ghost use mathlib.Core.Path.{_≡_};
+ghost use Prim.Native.Nat.{_≤_, _<_};
+ghost use lib.ListN.{length};
+ghost use Rattle.laws.specs.Room.{zeros, Put};
+ghost use Rattle.desk.specs.Desk.{kindDigit, deskText, refusedText};
+use dates::Date;
+use libc::STDIN_FILENO;
+use libc::STDOUT_FILENO;
+
+fn wide(x: u8) -> u64
+    ensures { λ r. ⌜ (r ≡ x) × (r < 256) ⌝ }
+{
+    x as u64
+}
+
+// The kind's digit as a number; 0 where there is none.
+fn kind_digit(input: &[u8]) -> u64
+    ensures { λ r. ⌜ r ≡ kindDigit (now (input .entry)) ⌝ }
+{
+    if input.len() == 0 {
+        return 0;
+    }
+    let b = wide(input[0]);
+    if b < 48 {
+        return 0;
+    }
+    b - 48
+}
+
+// `refused N`, and a line end.
+fn put_refused(number: u64, room: &mut [u8]) -> usize
+    ensures { λ r. ⌜ Put (refusedText number) (now (room .entry)) (now (room .exit)) r ⌝ }
+{
+    let mut at = room::put_all(b"refused ", room);
+    at += texts::put_decimal(number, &mut room[at..]);
+    at += room::put_byte(10, &mut room[at..]);
+    at
+}
+
+// What is printed for an input: it goes to the front of the room, and zeros behind it.
+fn answer(input: &[u8], room: &mut [u8]) -> usize
+    ensures { λ r. ⌜ Put (deskText (now (input .entry)) (length (now (room .entry)))) (zeros (length (now (room .entry)))) (now (room .exit)) r ⌝ }
+{
+    room::clear(room);
+    let kind = kind_digit(input);
+    if (kind < 1) | (7 < kind) {
+        return put_refused(1, room);
+    }
+    if input.len() < 9 {
+        return put_refused(2, room);
+    }
+    let Date::Is(today) = dates::date_of(&input[1..9]) else {
+        return put_refused(2, room);
+    };
+    let done = report::report(kind, today, &input[9..], room);
+    if done.number != 0 {
+        return put_refused(done.number, room);
+    }
+    done.length as usize
+}
+
+fn main() {
+    let mut input = [0u8; 32778];
+    let mut room = [0u8; 512];
+    let got = io::read_full(STDIN_FILENO, &mut input);
+    let n = answer(&input[..got], &mut room);
+    io::write_all(STDOUT_FILENO, &room[..n]);
+}

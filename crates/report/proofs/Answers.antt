@@ -1,0 +1,61 @@
+-- What `report` answers: 1, 2, 3, 4, or the report; and the report of what was read. Assumes nothing.
+use Prim.Native.Nat.{ℕ, _≤_, _<_}
+use mathlib.Core.Path.{_≡_}
+use mathlib.Core.Bool.{true, false}
+use mathlib.Core.List.{List}
+use native.Mathlib.Omega.{arith}
+use lib.ListN.{length}
+use borrow.Author.Tests.{lt-ltb, le-ltb, lt-leb, le-leb}
+use Rattle.laws.specs.Bytes.{Bytes}
+use Rattle.dates.specs.Date.{isDate}
+use Rattle.kinds.specs.Tables.{isKind}
+use Rattle.verdicts.specs.Output.{refusal, text}
+use Rattle.verdicts.specs.declared.Fault.{Fault}
+use Rattle.verdicts.specs.declared.Fault.the-variants.{UnknownKind, NoDate, SmallRoom, LargeContainer}
+use Rattle.verdicts.specs.declared.Outcome.the-variants.{Broken}
+use Rattle.container.specs.Reading.{Parsed, values, fault, outer, parsed, outcomeOf, outcome}
+use Rattle.report.specs.Report.{reportText}
+use Rattle.report.specs.Calls.{reportOutput}
+use Rattle.report.proofs.Bound.{report-length}
+
+-- a fault that is judged is what was read
+pub broken-parsed : (kind today : ℕ) (c : List ℕ) {f : Fault} {p : ℕ} → outcome kind today c ≡ Broken f p → parsed kind today c ≡ fault f p
+unfolding outcome
+broken-parsed kind today c {f} {p} e = go (parsed kind today c) e
+  where
+    go : (q : Parsed) → outcomeOf q ≡ Broken f p → q ≡ fault f p
+    go (values vs) e = let z : _≡_ {A = ℕ} 0 1 = cc in absurd (omega arith)
+    go (fault g q) e = cc
+
+module _ (kind today : ℕ) (c : List ℕ) (room : ℕ) where
+  pub report-1 : isKind kind ≡ false → reportOutput kind today c room ≡ refusal UnknownKind 0
+  unfolding reportOutput
+  report-1 k = rw k
+
+  module _ (k : isKind kind ≡ true) where
+    pub report-2 : isDate today ≡ false → reportOutput kind today c room ≡ refusal NoDate 0
+    unfolding reportOutput
+    report-2 d = rw (k, d)
+
+    module _ (d : isDate today ≡ true) where
+      pub report-3 : room < 512 → reportOutput kind today c room ≡ refusal SmallRoom 0
+      unfolding reportOutput
+      report-3 l = rw (k, d, lt-ltb _ _ l)
+
+      module _ (l : 512 ≤ room) where
+        pub report-4 : 32768 < length c → reportOutput kind today c room ≡ refusal LargeContainer 0
+        unfolding reportOutput
+        report-4 g = rw (k, d, le-ltb _ _ l, lt-leb _ _ g)
+
+        module _ (g : length c ≤ 32768) where
+          is-outer : parsed kind today c ≡ outer kind today c
+          unfolding parsed
+          is-outer = rw (k, d, le-leb _ _ g)
+
+          -- no report is over 512 bytes
+          pub short : Bytes c → length (reportText kind today (length c) (parsed kind today c)) ≤ 512
+          short b = rw is-outer (report-length kind today c b g)
+
+          pub report-0 : Bytes c → reportOutput kind today c room ≡ text (reportText kind today (length c) (parsed kind today c))
+          unfolding reportOutput
+          report-0 b = rw (k, d, le-ltb _ _ l, le-leb _ _ g, is-outer, le-ltb _ _ (report-length kind today c b g))

@@ -1,0 +1,281 @@
+-- Demand 3, converse: two conforming containers with equal reports have the same kind, date, tags, lengths and open values. This shuts out "one
+-- printing a constant report". Assumes nothing.
+--     converse     from the texts
+--     told         from what two calls answer
+--     told-rooms   from the rooms that two calls leave
+use Prim.Native.Nat.{ℕ, zero, suc, _+_, _-_, _^_, _≤_, _<_}
+use mathlib.Core.Logic.{inl, inr}
+use mathlib.Core.Path.{_≡_, refl, sym, ap, ap₂, _∙_}
+use mathlib.Core.Bool.{false, cond, true≢false}
+use mathlib.Core.Option.{Option, none, some}
+use mathlib.Core.List.{List, [], _∷_, _++_}
+use native.Mathlib.Omega.{arith}
+use lib.Dec.{ltb, eqb}
+use lib.ListN.{length, getD}
+use borrow.Author.Tests.{le-leb, eq-eqb}
+use Rattle.laws.specs.Bytes.{Bytes}
+use Rattle.laws.specs.Room.{zeros, filled}
+use Rattle.laws.proofs.Cases.{which}
+use Rattle.laws.proofs.Layouts.{by-entries}
+use Rattle.lengths.specs.Length.{lengthBytes}
+use Rattle.fascn.specs.Fascn.{IsFascn}
+use Rattle.fascn.proofs.Codec.{complete}
+use Rattle.dates.specs.Date.{textNumber}
+use Rattle.dates.proofs.Dates.{date-exact, small, eight-digits}
+use Rattle.cbeff.specs.Header.{fingers, face}
+use Rattle.cbeff.proofs.Exact.{fascn-inside}
+use Rattle.rules.specs.Rules.{Keeps}
+use Rattle.kinds.specs.declared.ValueRule.the-variants.{Expiry}
+use Rattle.texts.specs.Text.{ascii, hexTag}
+use Rattle.texts.proofs.Reading.{Reads, and-then, and, given, so, behind, read, Without, ended-reads}
+use Rattle.texts.proofs.Numbers.{number-reads, fixed-reads, hex-reads, tag-reads, raw-reads}
+use Rattle.kinds.specs.Tables.{Table, table, chuid, discovery, printed, fingers as fingerRows, face as faceRows, IsKind}
+use Rattle.verdicts.specs.Output.{Output, refusal, text, Leaves}
+use Rattle.verdicts.specs.declared.Done.{Done}
+use Rattle.verdicts.specs.declared.Fault.the-variants.{SmallRoom}
+use Rattle.verdicts.proofs.Apart.{never-zero}
+use Rattle.container.specs.Container.{Values, encode, tagBytes, container, Allowed, Conforms}
+use Rattle.container.specs.Reading.{values, has}
+use Rattle.container.proofs.Promise.{kind-exact}
+use Rattle.container.proofs.Rows.{Distinct}
+use Rattle.container.proofs.Tags.{Plain, short, double, Tags, tags, distinct}
+use Rattle.container.proofs.Exact.{bytes-front, bytes-back}
+use Rattle.report.specs.Open.{nothing, model, holder, card, policy, issuer, rowValue, agencyOf, systemOf, openOf, shape}
+use Rattle.report.specs.Report.{kindName, number, digitsLine, cardPart, elementLine, elementLines, elementCount, elementsPart, openPart, reportText}
+use Rattle.report.specs.Calls.{reportOutput}
+use Rattle.dates.proofs.Dates.{text-number}
+use Rattle.report.proofs.Bound.{row-fits, row-long, fitted}
+use Rattle.report.proofs.Same.{conforms-outer}
+
+-- ---- CARD
+
+-- a kind by the sum of its name's first two letters
+nth : ℕ → List ℕ → ℕ
+nth x [] = 0
+nth x (y ∷ ys) = cond (eqb x y) 0 (suc (nth x ys))
+
+kindOf : List ℕ → ℕ
+kindOf s = suc (nth (getD s 0 0 + getD s 1 0) (134 ∷ 139 ∷ 141 ∷ 162 ∷ 152 ∷ 143 ∷ []))
+
+-- a name says its kind, and holds no line end
+named : (k : ℕ) → IsKind k → (kindOf (kindName k) ≡ k) × Without 10 (kindName k)
+unfolding kindOf nth
+named zero i = absurd (omega arith)
+named (suc zero) i = (refl, omega arith)
+named (suc (suc zero)) i = (refl, omega arith)
+named (suc (suc (suc zero))) i = (refl, omega arith)
+named (suc (suc (suc (suc zero)))) i = (refl, omega arith)
+named (suc (suc (suc (suc (suc zero))))) i = (refl, omega arith)
+named (suc (suc (suc (suc (suc (suc zero)))))) i = (refl, omega arith)
+named (suc (suc (suc (suc (suc (suc (suc zero))))))) i = (refl, omega arith)
+named (suc (suc (suc (suc (suc (suc (suc (suc k)))))))) i = absurd (omega arith)
+
+kind-reads : (k l : ℕ) → IsKind k → IsKind l → Reads (kindName k ++ 10 ∷ []) (kindName l ++ 10 ∷ []) (k ≡ l)
+kind-reads k l i j =
+    so (λ e. sym (named k i .0) ∙ ap kindOf e ∙ named l j .0) (ended-reads 10 (kindName k) (kindName l) (named k i .1) (named l j .1))
+
+line-reads : (w m n : ℕ) → m < 10 ^ w → n < 10 ^ w → Reads (digitsLine w m) (digitsLine w n) (m ≡ n)
+line-reads w m n g h = so (λ r. r .0) (and (fixed-reads w m n g h) (given (10 ∷ [])))
+
+card-reads : (k l size size′ t u : ℕ) → IsKind k → IsKind l → t < 10 ^ 8 → u < 10 ^ 8 → Reads (cardPart k size t 0 0) (cardPart l size′ u 0 0) ((k ≡ l) × (t ≡ u))
+unfolding cardPart
+card-reads k l size size′ t u i j g h =
+    so (λ r. (r .0 .0 .0, r .0 .1))
+    (and
+    (and
+    (and (behind (ascii "CARD 4\nkind ") (kind-reads k l i j)) (behind (ascii "bytes ") (number-reads 10 (omega arith) size size′)))
+    (behind (ascii "today ") (line-reads 8 t u g h)))
+    (given (ascii "verdict " ++ number 0 32 ++ number 0 10)))
+
+-- ---- ELEMENTS: both walks go along one table. Where a row is absent in one and there in the other, the next line of the one has another tag
+
+tag-size : {all : Table} {u : ℕ} → Plain all u → u < 65536
+tag-size (short h k) = omega arith
+tag-size (double e h) = omega arith
+
+-- the lines of rows without a tag do not begin with it
+other-tag : (all : Table) (today u : ℕ) (w z : List ℕ) → u < 65536 → (rs : Table) (vs : Values) → Tags all rs → has u rs ≡ false → Allowed today rs vs → 1 ≤ elementCount vs
+    → Reads (elementLines rs vs) (elementLine u w ++ z) ⊥
+unfolding elementLines elementCount
+other-tag all t u w z s [] [] p h a c = absurd (omega arith)
+other-tag all t u w z s [] (o ∷ vs) p h a c = absurd a
+other-tag all t u w z s (r ∷ rs) [] p h a c = absurd a
+other-tag all t u w z s (r ∷ rs) (none ∷ vs) p h a c =
+    elim (which (eqb u (r .tag))) [
+      | inl q ↦ absurd (true≢false (rw q at h))
+      | inr q ↦ other-tag all t u w z s rs vs (p .1) (rw q at h) (a .1) c
+    ]
+other-tag all t u w z s (r ∷ rs) (some v ∷ vs) p h a c =
+    so (λ e. e .1)
+    (and-then (and-then (tag-reads (r .tag) u (tag-size (p .0)) s) (λ q. absurd (true≢false (rw (eq-eqb u (r .tag) (sym q)) at h)))) (λ e. absurd (e .1)))
+
+lines-read : (all : Table) (t u : ℕ) (rs : Table) (vs ws : Values) → Tags all rs → Distinct rs → Allowed t rs vs → Allowed u rs ws → elementCount vs ≡ elementCount ws
+    → Reads (elementLines rs vs) (elementLines rs ws) (shape vs ≡ shape ws)
+unfolding elementLines elementCount
+lines-read all t u [] [] [] p d a b c = so (λ z. refl) (given [])
+lines-read all t u [] [] (o ∷ ws) p d a b c = absurd b
+lines-read all t u [] (o ∷ vs) ws p d a b c = absurd a
+lines-read all t u (r ∷ rs) [] ws p d a b c = absurd a
+lines-read all t u (r ∷ rs) (o ∷ vs) [] p d a b c = absurd b
+lines-read all t u (r ∷ rs) (none ∷ vs) (none ∷ ws) p d a b c =
+    so (ap (λ (l : List (Option ℕ)). none ∷ l)) (lines-read all t u rs vs ws (p .1) (d .1) (a .1) (b .1) c)
+lines-read all t u (r ∷ rs) (some v ∷ vs) (some w ∷ ws) p d a b c =
+    so (λ e. ap₂ (λ (n : ℕ) (l : List (Option ℕ)). some n ∷ l) (e .0) (e .1))
+    (and (behind (hexTag (r .tag) ++ 32 ∷ []) (number-reads 10 (omega arith) (length v) (length w))) (lines-read all t u rs vs ws (p .1) (d .1) (a .1) (b .1) (omega arith)))
+lines-read all t u (r ∷ rs) (none ∷ vs) (some w ∷ ws) p d a b c =
+    so (λ e. absurd e) (other-tag all t (r .tag) w (elementLines rs ws) (tag-size (p .0)) rs vs (p .1) (d .0) (a .1) (omega arith))
+lines-read all t u (r ∷ rs) (some v ∷ vs) (none ∷ ws) p d a b c = record {
+  cuts = λ x y e. absurd (other-tag all u (r .tag) v (elementLines rs vs) (tag-size (p .0)) rs ws (p .1) (d .0) (b .1) (omega arith) .cuts y x (sym e) .0);
+}
+
+elements-read : (k t u : ℕ) (vs ws : Values) → Allowed t (table k) vs → Allowed u (table k) ws → Reads (elementsPart (table k) vs) (elementsPart (table k) ws) (shape vs ≡ shape ws)
+elements-read k t u vs ws a b =
+    so (λ r. r .1)
+    (and-then (behind (ascii "ELEMENTS ") (number-reads 10 (omega arith) (elementCount vs) (elementCount ws)))
+    (λ c. lines-read (table k) t u (table k) vs ws (tags k) (distinct k) a b c))
+
+-- ---- OPEN: what is said of the open values is read back, since their rules bound them
+
+behind-length : (tag : ℕ) (v s : List ℕ) → Bytes (tagBytes tag ++ (lengthBytes (length v) ++ (v ++ s))) → Bytes (v ++ s)
+behind-length tag v s b = bytes-back (lengthBytes (length v)) (v ++ s) (bytes-back (tagBytes tag) (lengthBytes (length v) ++ (v ++ s)) b)
+
+value-bytes : (today i : ℕ) (rows : Table) (vs : Values) → Allowed today rows vs → Bytes (encode rows vs) → Bytes (rowValue vs i)
+value-bytes t i [] [] a b = tt
+value-bytes t i [] (o ∷ vs) a b = absurd a
+value-bytes t i (r ∷ rs) [] a b = absurd a
+value-bytes t zero (r ∷ rs) (none ∷ vs) a b = tt
+value-bytes t (suc i) (r ∷ rs) (none ∷ vs) a b = value-bytes t i rs vs (a .1) b
+value-bytes t zero (r ∷ rs) (some v ∷ vs) a b = bytes-front v (encode rs vs) (behind-length (r .tag) v (encode rs vs) b)
+value-bytes t (suc i) (r ∷ rs) (some v ∷ vs) a b = value-bytes t i rs vs (a .1) (bytes-back v (encode rs vs) (behind-length (r .tag) v (encode rs vs) b))
+
+-- agency and system of a FASC-N
+fascn-small : (s : List ℕ) → IsFascn s → (agencyOf s < 10 ^ 4) × (systemOf s < 10 ^ 4)
+fascn-small s f = rw (complete s (f .0) (f .1), agencyOf, systemOf) (f .1 .in-range .agency, f .1 .in-range .system)
+
+holder-reads : (a b s t : ℕ) → (a < 10 ^ 4) × (s < 10 ^ 4) → (b < 10 ^ 4) × (t < 10 ^ 4) → Reads (openPart (holder a s)) (openPart (holder b t)) (holder a s ≡ holder b t)
+unfolding openPart
+holder-reads a b s t g h =
+    so (λ r. ap₂ holder (r .0) (r .1))
+    (and (behind (ascii "OPEN 2\nagency ") (line-reads 4 a b (g .0) (h .0))) (behind (ascii "system ") (line-reads 4 s t (g .1) (h .1))))
+
+card-open-reads : (a b s t e f : ℕ) → (a < 10 ^ 4) × (s < 10 ^ 4) → (b < 10 ^ 4) × (t < 10 ^ 4) → e < 10 ^ 8 → f < 10 ^ 8
+    → Reads (openPart (card a s e)) (openPart (card b t f)) (card a s e ≡ card b t f)
+unfolding openPart
+card-open-reads a b s t e f g h i j =
+    so (λ r. λ n. card (r .0 .0 n) (r .0 .1 n) (r .1 n))
+    (and
+    (and (behind (ascii "OPEN 3\nagency ") (line-reads 4 a b (g .0) (h .0))) (behind (ascii "system ") (line-reads 4 s t (g .1) (h .1))))
+    (behind (ascii "expires ") (line-reads 8 e f i j)))
+
+policy-reads : (p q : List ℕ) → Bytes p → Bytes q → length p ≡ 2 → length q ≡ 2 → Reads (openPart (policy p)) (openPart (policy q)) (policy p ≡ policy q)
+unfolding openPart
+policy-reads p q b c l m =
+    let g = rw (by-entries 2 p l) at b in
+    let h = rw (by-entries 2 q m) at c in
+    so (λ r. ap policy (by-entries 2 p l ∙ rw (r .0 .0, r .0 .1) (sym (by-entries 2 q m))))
+    (behind (ascii "OPEN 1\npolicy ")
+    (and (and (hex-reads (getD p 0 0) (getD q 0 0) (g .0) (h .0)) (hex-reads (getD p 1 0) (getD q 1 0) (g .1 .0) (h .1 .0))) (given (10 ∷ []))))
+
+issuer-reads : (v w : List ℕ) → length v ≡ 15 → length w ≡ 15 → Reads (openPart (issuer v)) (openPart (issuer w)) (issuer v ≡ issuer w)
+unfolding openPart
+issuer-reads v w l m = so (λ r. ap issuer (r .0)) (behind (ascii "OPEN 1\nissuer ") (and (raw-reads v w (l ∙ sym m)) (given (10 ∷ []))))
+
+-- what is known of each of the two
+record Side (k t : ℕ) (vs : Values) : Type 0 where
+  kind : IsKind k
+  date : t < 10 ^ 8
+  allowed : Allowed t (table k) vs
+  bytes : (i : ℕ) → Bytes (rowValue vs i)
+
+side : (k t : ℕ) (vs : Values) (c : List ℕ) → Bytes c → Conforms k t vs c → Side k t vs
+side k t vs c b h =
+    let rows = encode (table k) vs in
+    let (y, m, d, x, e) = h .date-is in
+    let bc : Bytes (container k vs) = rw (h .written) at b in
+    record {
+      kind = h .kind-is;
+      date = rw e (small x .2);
+      allowed = h .allowed;
+      bytes = λ i. value-bytes t i (table k) vs (h .allowed) (bytes-back (lengthBytes (length rows)) rows (bc .1));
+    }
+
+expiry-small : (t : ℕ) (v : List ℕ) → Keeps Expiry t v → textNumber v < 10 ^ 8
+expiry-small t v (n, r, w) = rw (text-number v n r) (eight-digits v n r)
+
+open-reads : (k t u : ℕ) (vs ws : Values) → Side k t vs → Side k u ws → Reads (openPart (openOf k vs)) (openPart (openOf k ws)) (openOf k vs ≡ openOf k ws)
+open-reads zero t u vs ws a b = absurd (omega (arith, a .kind .0))
+open-reads (suc zero) t u vs ws a b = so (λ z. refl) (given (openPart model))
+open-reads (suc (suc zero)) t u vs ws a b =
+    card-open-reads _ _ _ _ _ _
+    (fascn-small _ (row-fits t 1 chuid vs (omega arith) refl (a .allowed) .rule))
+    (fascn-small _ (row-fits u 1 chuid ws (omega arith) refl (b .allowed) .rule))
+    (expiry-small t _ (row-fits t 5 chuid vs (omega arith) refl (a .allowed) .rule))
+    (expiry-small u _ (row-fits u 5 chuid ws (omega arith) refl (b .allowed) .rule))
+open-reads (suc (suc (suc zero))) t u vs ws a b =
+    policy-reads (rowValue vs 1) (rowValue ws 1) (a .bytes 1) (b .bytes 1)
+    (row-long 2 _ (row-fits t 1 discovery vs (omega arith) refl (a .allowed) .long))
+    (row-long 2 _ (row-fits u 1 discovery ws (omega arith) refl (b .allowed) .long))
+open-reads (suc (suc (suc (suc zero)))) t u vs ws a b =
+    issuer-reads (rowValue vs 4) (rowValue ws 4)
+    (row-long 15 _ (row-fits t 4 printed vs (omega arith) refl (a .allowed) .long))
+    (row-long 15 _ (row-fits u 4 printed ws (omega arith) refl (b .allowed) .long))
+open-reads (suc (suc (suc (suc (suc zero))))) t u vs ws a b = so (λ z. refl) (given (openPart nothing))
+open-reads (suc (suc (suc (suc (suc (suc zero)))))) t u vs ws a b =
+    holder-reads _ _ _ _
+    (fascn-small _ (fascn-inside fingers (rowValue vs 0) (a .bytes 0) (row-fits t 0 fingerRows vs (omega arith) refl (a .allowed) .rule)))
+    (fascn-small _ (fascn-inside fingers (rowValue ws 0) (b .bytes 0) (row-fits u 0 fingerRows ws (omega arith) refl (b .allowed) .rule)))
+open-reads (suc (suc (suc (suc (suc (suc (suc zero))))))) t u vs ws a b =
+    holder-reads _ _ _ _
+    (fascn-small _ (fascn-inside face (rowValue vs 0) (a .bytes 0) (row-fits t 0 faceRows vs (omega arith) refl (a .allowed) .rule)))
+    (fascn-small _ (fascn-inside face (rowValue ws 0) (b .bytes 0) (row-fits u 0 faceRows ws (omega arith) refl (b .allowed) .rule)))
+open-reads (suc (suc (suc (suc (suc (suc (suc (suc k)))))))) t u vs ws a b = absurd (omega (arith, a .kind .1))
+
+-- ---- the whole
+
+whole-reads : (k l m n t u : ℕ) (vs ws : Values) → Side k t vs → Side l u ws
+    → Reads (reportText k t m (values vs)) (reportText l u n (values ws)) ((k ≡ l) × (t ≡ u) × (shape vs ≡ shape ws) × (openOf k vs ≡ openOf k ws))
+unfolding reportText
+whole-reads k l m n t u vs ws a b =
+    so (λ r. (r .0 .0 .0, r .0 .0 .1, r .0 .1, r .1))
+    (and-then
+    (and-then (card-reads k l m n t u (a .kind) (b .kind) (a .date) (b .date))
+    (λ r. rw (← r .0) (elements-read k t u vs ws (a .allowed) (rw (← r .0) at (b .allowed)))))
+    (λ r. rw (← r .0 .0) (open-reads k t u vs ws a (rw (← r .0 .0) at b))))
+
+pub converse : (k t l u : ℕ) (vs ws : Values) (c d : List ℕ) → Bytes c → Bytes d → Conforms k t vs c → Conforms l u ws d
+    → reportText k t (length c) (values vs) ≡ reportText l u (length d) (values ws)
+    → (k ≡ l) × (t ≡ u) × (shape vs ≡ shape ws) × (openOf k vs ≡ openOf k ws)
+converse k t l u vs ws c d b g h i e = read (whole-reads k l (length c) (length d) t u vs ws (side k t vs c b h) (side l u ws d g i)) e
+
+-- ---- from what the calls answer, and from the rooms that they leave
+
+-- a conforming container's report is its text, wherever it is not refused
+prints : (k t room : ℕ) (vs : Values) (c r : List ℕ) → Bytes c → Conforms k t vs c → reportOutput k t c room ≡ text r → reportText k t (length c) (values vs) ≡ r
+unfolding reportOutput
+prints k t room vs c r b h e =
+    let f = rw (kind-exact k .1 (h .kind-is), date-exact t .1 (h .date-is), le-leb _ _ (h .size-is), fitted k t c b (h .size-is), conforms-outer k t c b vs h) at e in
+    elim (which (ltb room 512)) [
+      | inl q ↦ let g : refusal SmallRoom 0 ≡ text r = rw q at f in let z : _≡_ {A = ℕ} 0 1 = cc in absurd (omega arith)
+      | inr q ↦ let g : text (reportText k t (length c) (values vs)) ≡ text r = rw q at f in cc
+    ]
+
+pub told : (k t l u : ℕ) (vs ws : Values) (c d : List ℕ) → Bytes c → Bytes d → Conforms k t vs c → Conforms l u ws d
+    → (r : List ℕ) (room₁ room₂ : ℕ) → reportOutput k t c room₁ ≡ text r → reportOutput l u d room₂ ≡ text r
+    → (k ≡ l) × (t ≡ u) × (shape vs ≡ shape ws) × (openOf k vs ≡ openOf k ws)
+told k t l u vs ws c d b g h i r m n p q = converse k t l u vs ws c d b g h i (prints k t m vs c r b h p ∙ sym (prints l u n ws d r g i q))
+
+-- what a call that answered 0 left begins with its output
+answered : (o : Output) (d e : List ℕ) (r : Done) → Leaves o d e r → r .number ≡ 0 → (p z : List ℕ) × (o ≡ text p) × (e ≡ p ++ z)
+unfolding filled
+answered (refusal f p) d e r l z = absurd (never-zero f (sym (ap (λ (x : Done). x .number) (l .answer)) ∙ z))
+answered (text p) d e r l z = (p, zeros (length d - length p), refl, l .room)
+
+-- the room alone says it: what stands behind the text is not looked at
+pub told-rooms : (k t l u : ℕ) (vs ws : Values) (c d : List ℕ) → Bytes c → Bytes d → Conforms k t vs c → Conforms l u ws d
+    → (d₁ d₂ e : List ℕ) (r₁ r₂ : Done) → Leaves (reportOutput k t c (length d₁)) d₁ e r₁ → Leaves (reportOutput l u d (length d₂)) d₂ e r₂
+    → r₁ .number ≡ 0 → r₂ .number ≡ 0 → (k ≡ l) × (t ≡ u) × (shape vs ≡ shape ws) × (openOf k vs ≡ openOf k ws)
+told-rooms k t l u vs ws c d b g h i d₁ d₂ e r₁ r₂ x y p q =
+    let (v, z, f, s) = answered (reportOutput k t c (length d₁)) d₁ e r₁ x p in
+    let (w, z′, f′, s′) = answered (reportOutput l u d (length d₂)) d₂ e r₂ y q in
+    let whole = whole-reads k l (length c) (length d) t u vs ws (side k t vs c b h) (side l u ws d g i) in
+    whole .cuts z z′ (rw (prints k t (length d₁) vs c v b h f, prints l u (length d₂) ws d w g i f′) (sym s ∙ s′)) .0

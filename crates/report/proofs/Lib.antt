@@ -1,0 +1,6 @@
+pub mod Bound
+pub mod Lines
+pub mod Opens
+pub mod Answers
+pub mod Same
+pub mod Converse

@@ -1,0 +1,119 @@
+-- `report::report` meets its contract: a law for each way out. Assumes nothing.
+use Prim.Native.Nat.{_≤_, _<_}
+use mathlib.Core.Path.{_≡_, sym, _∙_}
+use mathlib.Core.Bool.{true}
+use native.Mathlib.Nat.{le-trans}
+use native.Mathlib.Omega.{arith}
+use lib.ListN.{length}
+use borrow.Author.Tests.{not-true, not-false}
+use Rattle.laws.specs.Bytes.{Bytes}
+use Rattle.laws.proofs.Bases.{below-of}
+use Rattle.laws.proofs.Rooms.{put-filled}
+use Rattle.dates.specs.Date.{isDate}
+use Rattle.kinds.specs.Tables.{isKind}
+use Rattle.verdicts.proofs.Outputs.{refuses, gives}
+use Rattle.report.proofs.Answers.{report-1, report-2, report-3, report-4, report-0, short}
+use borrow.Author.Needs.{needs}
+use Rattle.report.proofs.report.Statement.{statement}
+use Rattle.report.proofs.report.Tie as tie
+
+bytes : (x : tie.After-shared-slice-known) → Bytes (x .before .args .container .now)
+bytes x = below-of 256 (x .before .args .container .now) (λ i. x .shared-slice-known .given i .fits)
+
+-- past the first test, and past the second
+a-kind : (e : tie.Else1) → isKind (e .before .before .before .before .before .before .before .args .kind) ≡ true
+a-kind e = not-false _ (e .if1 .left)
+
+a-date : (f : tie.Else2) → isDate (f .before .before .before .before .before .before .before .before .before .args .today) ≡ true
+a-date f = sym (f .before .is-date .ensures) ∙ not-false _ (f .if2 .left)
+
+returns : tie.Need-returns
+returns c =
+    let z = c .before .before .before .before in
+    let a = z .before .before .before .before .args in
+    refuses (a .room .now) (report-1 (a .kind) (a .today) (a .container .now) _ (not-true _ (c .before .if1 .taken))) (z .clear .ensures) (c .refused .ensures)
+
+returns-2 : tie.Need-returns-2
+returns-2 c =
+    let i = c .before .before in
+    let e = i .before in
+    let z = e .before .before .before in
+    let a = z .before .before .before .before .args in
+    refuses (a .room .now) (report-2 (a .kind) (a .today) (a .container .now) _ (a-kind e) (sym (i .is-date .ensures) ∙ not-true _ (c .before .if2 .taken))) (z .clear .ensures) (c .refused2 .ensures)
+
+returns-3 : tie.Need-returns-3
+returns-3 c =
+    let t = c .before in
+    let f = t .before in
+    let e = f .before .before in
+    let z = e .before .before .before in
+    let a = z .before .before .before .before .args in
+    let l : length (a .room .now) < 512 = omega (arith, t .if3 .taken) in
+    refuses (a .room .now) (report-3 (a .kind) (a .today) (a .container .now) _ (a-kind e) (a-date f) l) (z .clear .ensures) (c .refused3 .ensures)
+
+returns-4 : tie.Need-returns-4
+returns-4 c =
+    let t = c .before in
+    let g = t .before in
+    let f = g .before in
+    let e = f .before .before in
+    let z = e .before .before .before in
+    let a = z .before .before .before .before .args in
+    let l : 512 ≤ length (a .room .now) = omega (arith, g .if3 .left) in
+    refuses (a .room .now) (report-4 (a .kind) (a .today) (a .container .now) _ (a-kind e) (a-date f) l (t .if4 .taken)) (z .clear .ensures) (c .refused4 .ensures)
+
+returns-5 : tie.Need-returns-5
+returns-5 c =
+    let t = c .before .before .before .before .before in
+    let p = t .before .before .before in
+    let s = p .before .before in
+    let g = s .before in
+    let f = g .before in
+    let e = f .before .before in
+    let z = e .before .before .before in
+    let x = z .before .before .before in
+    let a = x .before .args in
+    let l : 512 ≤ length (a .room .now) = omega (arith, g .if3 .left) in
+    let h = short (a .kind) (a .today) (a .container .now) (length (a .room .now)) (a-kind e) (a-date f) l (s .if4 .left) (bytes x) in
+    absurd (omega (arith, put-filled (z .clear .ensures) (le-trans h l) (p .put-report .ensures) .1, h, t .if5 .taken))
+
+returns-6 : tie.Need-returns-6
+returns-6 c =
+    let p = c .before .before .before .before in
+    let s = p .before .before in
+    let g = s .before in
+    let f = g .before in
+    let e = f .before .before in
+    let z = e .before .before .before in
+    let x = z .before .before .before in
+    let a = x .before .args in
+    let l : 512 ≤ length (a .room .now) = omega (arith, g .if3 .left) in
+    let h = short (a .kind) (a .today) (a .container .now) (length (a .room .now)) (a-kind e) (a-date f) l (s .if4 .left) (bytes x) in
+    gives (a .room .now) (report-0 (a .kind) (a .today) (a .container .now) _ (a-kind e) (a-date f) l (s .if4 .left) (bytes x)) (z .clear .ensures) (le-trans h l) (p .put-report .ensures) (c .wrote .ensures)
+
+pub report-spec : {M : Type 1} → statement M
+report-spec =
+    tie.close
+    (tie.spec
+    (λ c κs. search needs)
+    (λ c κs. search needs)
+    (λ c. search needs)
+    returns
+    (λ c κs. search needs)
+    (λ c κs. search needs)
+    (λ c. search needs)
+    returns-2
+    (λ c κs. search needs)
+    (λ c. search needs)
+    returns-3
+    (λ c κs. search needs)
+    (λ c. search needs)
+    returns-4
+    (λ c κs. search needs)
+    (λ c κs. search needs)
+    (λ c κs. search needs)
+    (λ c. search needs)
+    returns-5
+    (λ c κs. search needs)
+    (λ c. search needs)
+    returns-6)

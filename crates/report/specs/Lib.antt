@@ -1,0 +1,4 @@
+pub mod Report
+pub mod Calls
+pub mod Open
+pub mod Writers

@@ -1,0 +1,1754 @@
+//! A deterministic generator of conforming and damaged inputs.
+
+use crate::batch::{Call, Record};
+use crate::card::{self, Rule};
+use crate::values::{self, fascn_encode, fascn_pack, fascn_values, is_date};
+use crate::{CONTAINER_MAX, REPORT_MAX};
+
+/// splitmix64.
+pub struct Rng(u64);
+
+impl Rng {
+    pub fn new(seed: u64) -> Rng {
+        Rng(seed)
+    }
+
+    pub fn word(&mut self) -> u64 {
+        self.0 = self.0.wrapping_add(0x9E37_79B9_7F4A_7C15);
+        let mut z = self.0;
+        z = (z ^ (z >> 30)).wrapping_mul(0xBF58_476D_1CE4_E5B9);
+        z = (z ^ (z >> 27)).wrapping_mul(0x94D0_49BB_1331_11EB);
+        z ^ (z >> 31)
+    }
+
+    /// A number under `n`.
+    pub fn below(&mut self, n: u64) -> u64 {
+        ((u128::from(self.word()) * u128::from(n)) >> 64) as u64
+    }
+
+    /// A size from `low` to `high`, both included.
+    pub fn size(&mut self, low: usize, high: usize) -> usize {
+        low + self.below((high - low + 1) as u64) as usize
+    }
+
+    pub fn one_in(&mut self, n: u64) -> bool {
+        self.below(n) == 0
+    }
+
+    pub fn pick<T: Copy>(&mut self, from: &[T]) -> T {
+        from[self.below(from.len() as u64) as usize]
+    }
+
+    pub fn byte(&mut self) -> u8 {
+        self.word() as u8
+    }
+
+    pub fn bytes(&mut self, n: usize) -> Vec<u8> {
+        (0..n).map(|_| self.byte()).collect()
+    }
+
+    fn text(&mut self, n: usize) -> Vec<u8> {
+        (0..n).map(|_| if self.one_in(12) { self.pick(&[0x20, 0x7E]) } else { self.size(0x20, 0x7E) as u8 }).collect()
+    }
+}
+
+// ---------------------------------------------------------------------------------------------
+// Conforming values
+
+/// A card's values by row of its kind's table; `None` for an absent element.
+#[derive(Clone)]
+pub struct Card {
+    pub kind: u64,
+    pub today: u64,
+    pub rows: Vec<Option<Vec<u8>>>,
+}
+
+impl Card {
+    fn table(&self) -> &'static [card::Row] {
+        card::kind_of(self.kind).expect("a card has a kind").rows
+    }
+
+    fn loose(&self) -> Loose {
+        let items = self
+            .table()
+            .iter()
+            .zip(&self.rows)
+            .filter_map(|(row, value)| value.as_ref().map(|value| Item::new(row.tag, value.clone())))
+            .collect();
+        Loose {
+            outer: if self.kind == 3 { 0x7E } else { 0x53 },
+            form: Form::Fewest,
+            delta: 0,
+            items,
+            cut: 0,
+            content_tail: Vec::new(),
+            tail: Vec::new(),
+        }
+    }
+
+    pub fn container(&self) -> Vec<u8> {
+        self.loose().bytes()
+    }
+
+    pub fn sheet(&self) -> Vec<u8> {
+        let mut out = Vec::new();
+        for value in &self.rows {
+            match value {
+                None => out.extend([0, 0]),
+                Some(value) => {
+                    out.extend((value.len() as u16 + 1).to_be_bytes());
+                    out.extend(value);
+                }
+            }
+        }
+        out
+    }
+
+    fn row_of(&self, tag: u16) -> usize {
+        self.table().iter().position(|row| row.tag == tag).expect("the tag is in the table")
+    }
+
+    fn value(&mut self, tag: u16) -> &mut Vec<u8> {
+        let row = self.row_of(tag);
+        self.rows[row].as_mut().expect("the row is there")
+    }
+}
+
+const LIMITS: [u64; 9] = [10_000, 10_000, 1_000_000, 10, 10, 10_000_000_000, 10, 10_000, 10];
+
+fn fascn_numbers(rng: &mut Rng) -> [u64; 9] {
+    let mut numbers = [0; 9];
+    for (number, &limit) in numbers.iter_mut().zip(&LIMITS) {
+        *number = match rng.below(8) {
+            0 => 0,
+            1 => limit - 1,
+            2 => rng.below(10),
+            _ => rng.below(limit),
+        };
+    }
+    numbers
+}
+
+fn fascn(rng: &mut Rng) -> Vec<u8> {
+    let mut out = vec![0; 25];
+    let numbers = if rng.one_in(16) { [0; 9] } else { fascn_numbers(rng) };
+    fascn_encode(&numbers, &mut out);
+    out
+}
+
+fn uuid(rng: &mut Rng) -> Vec<u8> {
+    let mut out = rng.bytes(16);
+    out[6] = rng.pick(&[0x10, 0x40, 0x50]) | out[6] & 15;
+    out[8] = 0x80 | out[8] & 0x3F;
+    out
+}
+
+const YEARS: [u64; 20] =
+    [1, 4, 99, 100, 400, 1600, 1700, 1900, 1999, 2000, 2023, 2024, 2026, 2028, 2099, 2100, 2400, 9993, 9996, 9999];
+
+/// A date, often at a month's end.
+fn date(rng: &mut Rng) -> u64 {
+    loop {
+        let year = match rng.below(4) {
+            0 => rng.pick(&YEARS),
+            1 => 1 + rng.below(9999),
+            _ => 2000 + rng.below(60),
+        };
+        let day = match rng.below(3) {
+            0 => rng.pick(&[1, 28, 29, 30, 31]),
+            _ => 1 + rng.below(31),
+        };
+        let month = if rng.one_in(4) { 2 } else { 1 + rng.below(12) };
+        let date = year * 10_000 + month * 100 + day;
+        if is_date(date) {
+            return date;
+        }
+    }
+}
+
+/// An eight-digit number that is a date or nearly one.
+fn nearly_date(rng: &mut Rng) -> u64 {
+    let year = match rng.below(8) {
+        0 => 0,
+        1 => rng.below(10_000),
+        _ => rng.pick(&YEARS),
+    };
+    let month = if rng.one_in(2) { rng.pick(&[0, 1, 2, 2, 2, 4, 12, 13, 99]) } else { rng.below(14) };
+    let day = if rng.one_in(3) { rng.below(40) } else { rng.pick(&[0, 1, 28, 29, 30, 31, 32]) };
+    year * 10_000 + month * 100 + day
+}
+
+fn today(rng: &mut Rng) -> u64 {
+    match rng.below(12) {
+        0..=4 => 20260301,
+        5 => rng.pick(&[10101, 99991231, 20240229, 20000229, 99931231, 99940101, 20251231, 20260101]),
+        _ => date(rng),
+    }
+}
+
+fn eight(number: u64) -> Vec<u8> {
+    format!("{:08}", number).into_bytes()
+}
+
+/// A date in the window of `today`.
+fn expiry(rng: &mut Rng, today: u64) -> u64 {
+    loop {
+        let date = match rng.below(8) {
+            0 => today,
+            1 => today + 60_000,
+            2 => today + rng.below(40),
+            3 => today + 59_900 + rng.below(101),
+            _ => today + rng.below(60_001),
+        };
+        if is_date(date) {
+            return date;
+        }
+    }
+}
+
+fn binary_date(rng: &mut Rng) -> [u8; 8] {
+    let day = date(rng);
+    [
+        (day / 1_000_000) as u8,
+        (day / 10_000 % 100) as u8,
+        (day / 100 % 100) as u8,
+        (day % 100) as u8,
+        if rng.one_in(4) { rng.pick(&[0, 23]) } else { rng.below(24) as u8 },
+        if rng.one_in(4) { rng.pick(&[0, 59]) } else { rng.below(60) as u8 },
+        if rng.one_in(4) { rng.pick(&[0, 59]) } else { rng.below(60) as u8 },
+        0x5A,
+    ]
+}
+
+fn creator(rng: &mut Rng) -> Vec<u8> {
+    let k = if rng.one_in(3) { rng.pick(&[0, 1, 16, 17]) } else { rng.size(0, 17) };
+    let mut out = rng.text(k);
+    out.push(0);
+    while out.len() < 18 {
+        out.push(if rng.one_in(3) { rng.byte() } else { 0 });
+    }
+    out
+}
+
+/// A value of BC with these data bytes and a signature of `signature` bytes.
+fn biometric(rng: &mut Rng, face: bool, data: &[u8], signature: usize) -> Vec<u8> {
+    let mut out = vec![0x03, 0x0D];
+    out.extend((data.len() as u32).to_be_bytes());
+    out.extend((signature as u16).to_be_bytes());
+    out.extend([0x00, 0x1B]);
+    out.extend(if face { [0x05, 0x01] } else { [0x02, 0x01] });
+    out.extend(binary_date(rng));
+    let (one, other) = (binary_date(rng), binary_date(rng));
+    out.extend(one.min(other));
+    out.extend(if rng.one_in(8) { one.min(other) } else { one.max(other) });
+    out.extend(if face { [0, 0, 2] } else { [0, 0, 8] });
+    out.push(if face { 0x20 } else { 0x80 } | rng.byte() & 31);
+    let qualities: &[u8] = if face { &[0xFE, 0, 1, 99, 100] } else { &[0xFE, 0xFF, 0, 1, 99, 100] };
+    out.push(if rng.one_in(2) { rng.pick(qualities) } else { rng.below(101) as u8 });
+    out.extend(creator(rng));
+    out.extend(fascn(rng));
+    out.extend([0; 4]);
+    out.extend(data);
+    out.extend(rng.bytes(signature));
+    out
+}
+
+fn minutia(rng: &mut Rng, out: &mut Vec<u8>) {
+    out.push((rng.below(3) as u8) << 6 | rng.byte() & 0x3F);
+    out.push(rng.byte());
+    out.push(rng.byte() & 0x3F);
+    out.push(rng.byte());
+    out.push(if rng.one_in(6) { rng.pick(&[0, 179]) } else { rng.below(180) as u8 });
+    out.push(if rng.one_in(6) { rng.pick(&[0, 100]) } else { rng.below(101) as u8 });
+}
+
+/// A minutiae record; conforming if both counts are at most 128.
+fn minutiae(rng: &mut Rng, counts: [usize; 2]) -> Vec<u8> {
+    let mut out = vec![0x46, 0x4D, 0x52, 0x00];
+    out.extend(values::MINUTIAE_VERSION);
+    out.extend(((38 + 6 * (counts[0] + counts[1])) as u16).to_be_bytes());
+    out.extend(rng.bytes(10));
+    out.extend([0, 197, 0, 197, 2, 0]);
+    for &count in &counts {
+        out.push(rng.below(11) as u8);
+        out.push(rng.pick(&[0, 2]));
+        out.push(rng.pick(&[20, 40, 60, 80, 100, 254, 255]));
+        out.push(count as u8);
+        for _ in 0..count {
+            minutia(rng, &mut out);
+        }
+        out.extend([0, 0]);
+    }
+    out
+}
+
+fn minutiae_count(rng: &mut Rng) -> usize {
+    match rng.below(40) {
+        0..=11 => 0,
+        12..=29 => rng.size(1, 3),
+        30..=36 => rng.size(0, 12),
+        37 | 38 => rng.size(0, 128),
+        _ => rng.size(127, 128),
+    }
+}
+
+/// A length of mostly few bytes, at times one where the length form changes, rarely a long one.
+fn any_length(rng: &mut Rng, low: usize, high: usize) -> usize {
+    let n = match rng.below(200) {
+        0..=23 => low,
+        24..=38 => rng.pick(&[127, 128, 129, 255, 256, 257]),
+        39 => rng.size(0, 3000),
+        _ => rng.size(0, 40),
+    };
+    n.max(low).min(high)
+}
+
+fn up_to(rng: &mut Rng, high: usize) -> usize {
+    match rng.below(10) {
+        0 | 1 => 0,
+        2 => high,
+        _ => rng.size(0, high),
+    }
+}
+
+/// A conforming card of the kind, for a day of its own.
+pub fn conforming(rng: &mut Rng, kind: u64) -> Card {
+    let today = today(rng);
+    conforming_on(rng, kind, today)
+}
+
+pub fn conforming_on(rng: &mut Rng, kind: u64, today: u64) -> Card {
+    let table = card::kind_of(kind).expect("a kind from 1 to 7").rows;
+    let mut rows = Vec::new();
+    for row in table {
+        if row.optional && rng.one_in(2) {
+            rows.push(None);
+            continue;
+        }
+        let length = if row.longest > 2_000 {
+            any_length(rng, 0, 4_000)
+        } else if row.longest > 200 {
+            if rng.one_in(12) {
+                rng.pick(&[row.longest, row.longest - 1, 255, 256])
+            } else {
+                any_length(rng, 0, row.longest)
+            }
+        } else if row.or_empty {
+            rng.pick(&[0, row.longest])
+        } else if row.shortest == row.longest {
+            row.longest
+        } else {
+            up_to(rng, row.longest)
+        };
+        rows.push(Some(match row.rule {
+            Rule::Any => rng.bytes(length),
+            Rule::Exactly(bytes) => bytes.to_vec(),
+            Rule::Fascn => fascn(rng),
+            Rule::Uuid => uuid(rng),
+            Rule::Expiry => eight(expiry(rng, today)),
+            Rule::Date => eight(date(rng)),
+            Rule::Policy => policy(rng),
+            Rule::Text => rng.text(length),
+            Rule::Fingers => {
+                let counts = [minutiae_count(rng), minutiae_count(rng)];
+                let data = minutiae(rng, counts);
+                let signature = any_length(rng, 1, 4_000);
+                biometric(rng, false, &data, signature)
+            }
+            Rule::Face => {
+                let data = any_length(rng, 1, 4_000);
+                let data = rng.bytes(data);
+                let signature = any_length(rng, 1, 4_000);
+                biometric(rng, true, &data, signature)
+            }
+        }));
+    }
+    Card { kind, today, rows }
+}
+
+fn policy(rng: &mut Rng) -> Vec<u8> {
+    let first = rng.pick(&[0x40, 0x48, 0x4C, 0x50, 0x58, 0x5C, 0x60, 0x68, 0x6C, 0x70, 0x78, 0x7C]);
+    let second = if first & 0x20 != 0 { rng.pick(&[0x10, 0x20]) } else { 0 };
+    vec![first, second]
+}
+
+/// A card of kind 2, 6 or 7 whose container has exactly `total` bytes.
+pub fn conforming_of_size(rng: &mut Rng, kind: u64, total: usize) -> Card {
+    let mut card = conforming(rng, kind);
+    if kind == 2 {
+        *card.value(0x3E) = vec![0; 1_000];
+        let spare = total - card.container().len();
+        *card.value(0x3E) = rng.bytes(1_000 + spare);
+    } else if kind == 6 {
+        let counts = [minutiae_count(rng), minutiae_count(rng)];
+        let data = minutiae(rng, counts);
+        *card.value(0xBC) = biometric(rng, false, &data, 1_000);
+        let spare = total - card.container().len();
+        *card.value(0xBC) = biometric(rng, false, &data, 1_000 + spare);
+    } else {
+        let signature = rng.size(1, 20_000);
+        *card.value(0xBC) = biometric(rng, true, &[1; 1_000], signature);
+        let spare = total - card.container().len();
+        let data = rng.bytes(1_000 + spare);
+        *card.value(0xBC) = biometric(rng, true, &data, signature);
+    }
+    card
+}
+
+/// A card with the same tags, lengths, day and open values; all personal bytes are new.
+pub fn personal_twin(rng: &mut Rng, card: &Card) -> Card {
+    let mut twin = card.clone();
+    let table = card.table();
+    for (row, slot) in table.iter().zip(twin.rows.iter_mut()) {
+        let value = match slot {
+            None => continue,
+            Some(value) => value,
+        };
+        match row.rule {
+            Rule::Any => *value = rng.bytes(value.len()),
+            Rule::Uuid => *value = uuid(rng),
+            Rule::Date => *value = eight(date(rng)),
+            Rule::Text if row.tag != 0x06 => *value = rng.text(value.len()),
+            Rule::Fascn => *value = fascn_twin(rng, value),
+            Rule::Fingers | Rule::Face => {
+                let face = row.rule == Rule::Face;
+                let data_length = u32::from_be_bytes([value[2], value[3], value[4], value[5]]) as usize;
+                let data = if face {
+                    rng.bytes(data_length)
+                } else {
+                    let points = (data_length - 38) / 6;
+                    let first = rng.size(points.saturating_sub(128), points.min(128));
+                    minutiae(rng, [first, points - first])
+                };
+                let signature = value.len() - 88 - data_length;
+                let fascn = fascn_twin(rng, &value[values::HEADER_FASCN]);
+                *value = biometric(rng, face, &data, signature);
+                value[values::HEADER_FASCN].copy_from_slice(&fascn);
+            }
+            Rule::Exactly(_) | Rule::Expiry | Rule::Policy | Rule::Text => (),
+        }
+    }
+    twin
+}
+
+fn fascn_twin(rng: &mut Rng, bytes: &[u8]) -> Vec<u8> {
+    let (_, old) = values::fascn_decode(bytes);
+    let mut numbers = fascn_numbers(rng);
+    numbers[0] = old[0];
+    numbers[1] = old[1];
+    let mut out = vec![0; 25];
+    fascn_encode(&numbers, &mut out);
+    out
+}
+
+// ---------------------------------------------------------------------------------------------
+// Damage to values
+
+fn flip_bit(rng: &mut Rng, bytes: &mut [u8]) {
+    if !bytes.is_empty() {
+        let at = rng.below(bytes.len() as u64 * 8) as usize;
+        bytes[at / 8] ^= 0x80 >> (at % 8);
+    }
+}
+
+fn damage_fascn(rng: &mut Rng, bytes: &mut [u8]) {
+    let numbers = fascn_numbers(rng);
+    let mut characters = fascn_values(&numbers);
+    match rng.below(10) {
+        0 | 1 => flip_bit(rng, bytes),
+        2 => {
+            flip_bit(rng, bytes);
+            flip_bit(rng, bytes);
+        }
+        3 => bytes.fill(rng.pick(&[0x00, 0xFF, 0x84, 0x21])),
+        4 => bytes.copy_from_slice(&fascn_pack(&characters)),
+        5 => {
+            // The check character alone, with good parity.
+            characters[39] ^= rng.pick(&[1, 2, 4, 8, 15]);
+            bytes.copy_from_slice(&fascn_pack(&characters));
+        }
+        6 => {
+            // Two bits of one character, so that its parity stays good.
+            let character = rng.size(0, 39);
+            for _ in 0..2 {
+                let at = 5 * character + rng.size(0, 4);
+                bytes[at / 8] ^= 0x80 >> (at % 8);
+            }
+        }
+        _ => {
+            // Any character with good parity, and mostly a check that fits.
+            let at = if rng.one_in(2) { rng.pick(&[0, 5, 10, 17, 19, 21, 38]) } else { rng.size(0, 38) };
+            characters[at] = if rng.one_in(2) { rng.size(9, 15) as u8 } else { rng.size(0, 15) as u8 };
+            if !rng.one_in(4) {
+                characters[39] = characters[..39].iter().fold(0, |xor, &v| xor ^ v);
+            }
+            bytes.copy_from_slice(&fascn_pack(&characters));
+        }
+    }
+}
+
+fn damage_uuid(rng: &mut Rng, bytes: &mut [u8]) {
+    if bytes.len() != 16 {
+        return;
+    }
+    match rng.below(5) {
+        0 | 1 => bytes[6] = (rng.below(16) as u8) << 4 | bytes[6] & 15,
+        2 => bytes[8] = rng.pick(&[0x00, 0x3F, 0x40, 0x7F, 0x80, 0xBF, 0xC0, 0xFF]),
+        3 => bytes.fill(rng.pick(&[0x00, 0xFF])),
+        _ => flip_bit(rng, &mut bytes[6..9]),
+    }
+}
+
+fn damage_digits(rng: &mut Rng, bytes: &mut [u8]) {
+    if !bytes.is_empty() {
+        let at = rng.below(bytes.len() as u64) as usize;
+        bytes[at] = rng.pick(&[0x2F, 0x30, 0x39, 0x3A, 0x20, 0x00, 0xB0, 0xFF, 0x2D]);
+    }
+}
+
+fn damage_expiry(rng: &mut Rng, bytes: &mut Vec<u8>, today: u64) {
+    let near = |n: u64| eight(n.min(99_999_999));
+    match rng.below(8) {
+        0 => *bytes = near(today - 1),
+        1 => *bytes = near(today + rng.below(3)),
+        2 => *bytes = near(today + 59_999 + rng.below(3)),
+        3 => *bytes = near(today + 59_900 + rng.below(200)),
+        4 => *bytes = eight(nearly_date(rng)),
+        5 => {
+            // A day of a year in the window that need not be one.
+            let year = today / 10_000 + rng.below(7);
+            *bytes = near(year * 10_000 + nearly_date(rng) % 10_000);
+        }
+        _ => damage_digits(rng, bytes),
+    }
+}
+
+fn damage_text(rng: &mut Rng, bytes: &mut [u8]) {
+    if !bytes.is_empty() {
+        let at = match rng.below(3) {
+            0 => 0,
+            1 => bytes.len() - 1,
+            _ => rng.below(bytes.len() as u64) as usize,
+        };
+        bytes[at] = rng.pick(&[0x1F, 0x20, 0x7E, 0x7F, 0x00, 0x0A, 0x80, 0xA0, 0xFF]);
+    }
+}
+
+fn damage_binary_date(rng: &mut Rng, bytes: &mut [u8]) {
+    match rng.below(8) {
+        0 | 1 => {
+            let date = nearly_date(rng);
+            bytes[0] = (date / 1_000_000) as u8;
+            bytes[1] = (date / 10_000 % 100) as u8;
+            bytes[2] = (date / 100 % 100) as u8;
+            bytes[3] = (date % 100) as u8;
+        }
+        2 => bytes[0] = rng.pick(&[0, 1, 19, 20, 99, 100, 255]),
+        3 => bytes[1] = rng.pick(&[0, 1, 99, 100, 255]),
+        4 => bytes[4] = rng.pick(&[0, 23, 24, 255]),
+        5 => bytes[5] = rng.pick(&[0, 59, 60, 255]),
+        6 => bytes[6] = rng.pick(&[0, 59, 60, 255]),
+        _ => bytes[7] = rng.pick(&[0x5A, 0x5B, 0x59, 0x7A, 0x00]),
+    }
+}
+
+fn set_lengths(bc: &mut [u8], data: u32, signature: u16) {
+    bc[2..6].copy_from_slice(&data.to_be_bytes());
+    bc[6..8].copy_from_slice(&signature.to_be_bytes());
+}
+
+/// Damages one field of the header of BC, or puts it at an edge.
+fn damage_header(rng: &mut Rng, bc: &mut Vec<u8>) {
+    if bc.len() < 88 {
+        return;
+    }
+    let body = bc.len() - 88;
+    let data = u32::from_be_bytes([bc[2], bc[3], bc[4], bc[5]]);
+    let signature = u16::from_be_bytes([bc[6], bc[7]]);
+    match rng.below(26) {
+        0 => bc[0] = rng.pick(&[0x00, 0x02, 0x03, 0x04, 0x83, 0xFF]),
+        1 => bc[1] = rng.pick(&[0x00, 0x0C, 0x0D, 0x0E, 0x0F, 0x1D, 0xFF]),
+        2 => set_lengths(
+            bc,
+            rng.pick(&[data.wrapping_add(1), data.wrapping_sub(1), 0, u32::MAX, data ^ 1 << 16, data ^ 1 << 24]),
+            signature,
+        ),
+        3 => set_lengths(bc, data, rng.pick(&[signature.wrapping_add(1), signature.wrapping_sub(1), 0, u16::MAX])),
+        // The sum is right: none in one of the parts, one byte, or the border moved.
+        4 => set_lengths(bc, 0, body as u16),
+        5 => set_lengths(bc, body as u32, 0),
+        6 => {
+            let data = if rng.one_in(2) { rng.size(0, body.min(40)) } else { rng.size(0, body) };
+            set_lengths(bc, data as u32, (body - data) as u16);
+        }
+        // The sum is right in 32 or in 16 bits only.
+        7 => {
+            let signature = (body + 1 + rng.size(0, 300)).min(65_535) as u16;
+            set_lengths(bc, (body as u32).wrapping_sub(u32::from(signature)), signature);
+        }
+        8 => set_lengths(bc, data.wrapping_add(65_536), signature),
+        // Both lengths at 0 or 1.
+        9 => {
+            let (data, signature) = rng.pick(&[(0, 0), (1, 0), (0, 1), (1, 1), (2, 1)]);
+            if !rng.one_in(4) {
+                bc.truncate(88 + data as usize + signature as usize);
+                bc.resize(88 + data as usize + signature as usize, 0);
+            }
+            set_lengths(bc, data, signature);
+        }
+        10 => {
+            let at = rng.size(8, 9);
+            bc[at] = rng.pick(&[0x00, 0x1A, 0x1B, 0x1C, 0x01]);
+        }
+        11 => {
+            let format = rng.pick(&[[2, 1], [5, 1], [2, 2], [1, 2], [0, 1], [2, 0], [8, 1]]);
+            bc[10..12].copy_from_slice(&format);
+        }
+        12 => damage_binary_date(rng, &mut bc[12..20]),
+        13 => damage_binary_date(rng, &mut bc[20..28]),
+        14 => damage_binary_date(rng, &mut bc[28..36]),
+        15 => {
+            // Validity dates that differ in one number by one, or not at all.
+            let start = [20, 26, 5, 15, 12, 30, 30, 0x5A];
+            bc[20..28].copy_from_slice(&start);
+            bc[28..36].copy_from_slice(&start);
+            let at = 20 + rng.size(0, 15);
+            if (at - 20) % 8 != 7 {
+                bc[at] = bc[at].wrapping_add(rng.pick(&[1, 255, 0]));
+            }
+            // A later number that goes the other way must not matter.
+            if rng.one_in(2) {
+                let later = 20 + rng.size(0, 15);
+                if (later - 20) % 8 != 7 {
+                    bc[later] = bc[later].wrapping_add(rng.pick(&[1, 255]));
+                }
+            }
+        }
+        16 => {
+            let at = rng.size(36, 38);
+            bc[at] = rng.pick(&[0, 1, 2, 8, 0x10, 0x0A, 0x80]);
+        }
+        17 => {
+            let other = rng.pick(&[[0, 0, 2], [0, 0, 8], [0, 8, 0], [2, 0, 0]]);
+            bc[36..39].copy_from_slice(&other);
+        }
+        18 => bc[39] = (rng.below(8) as u8) << 5 | bc[39] & 31,
+        19 | 20 => bc[40] = rng.pick(&[0xFD, 0xFE, 0xFF, 0x00, 0x01, 0x63, 0x64, 0x65, 0x7F, 0x80, 0x9C]),
+        21 => {
+            let k = rng.pick(&[0, 1, 8, 16, 17, 18]);
+            let text = rng.text(k);
+            bc[41..41 + k].copy_from_slice(&text);
+            if k < 18 {
+                bc[41 + k] = 0;
+            }
+            if k > 0 && !rng.one_in(3) {
+                damage_text(rng, &mut bc[41..41 + k]);
+            }
+        }
+        22 | 23 => damage_fascn(rng, &mut bc[values::HEADER_FASCN]),
+        24 => {
+            let at = rng.size(84, 87);
+            bc[at] = rng.pick(&[1, 0x80, 0xFF]);
+        }
+        _ => {
+            // The value is longer or shorter than it says.
+            match rng.below(4) {
+                0 => bc.push(0),
+                1 => {
+                    bc.pop();
+                }
+                2 => bc.truncate(rng.pick(&[87, 88, 89, 90])),
+                _ => {
+                    let more = rng.size(1, 200);
+                    bc.extend(rng.bytes(more));
+                }
+            }
+        }
+    }
+    // Two faults on either side of the FASC-N at times.
+    if bc.len() >= 88 && rng.one_in(12) {
+        match rng.below(3) {
+            0 => bc[59] ^= 0x80,
+            1 => bc[87] ^= 1,
+            _ => damage_header(rng, bc),
+        }
+    }
+}
+
+/// Damages one field of the minutiae record in BC, or puts it at an edge.
+fn damage_minutiae(rng: &mut Rng, bc: &mut Vec<u8>) {
+    if bc.len() < 88 + 38 {
+        return;
+    }
+    let data = u32::from_be_bytes([bc[2], bc[3], bc[4], bc[5]]) as usize;
+    if data < 38 || bc.len() <= 88 + data {
+        return;
+    }
+    if rng.one_in(12) {
+        // A record that is consistent, but with counts over 128, or with all the points in one view.
+        let counts = rng.pick(&[
+            [129, 0],
+            [0, 129],
+            [128, 129],
+            [129, 128],
+            [128, 128],
+            [200, 100],
+            [255, 0],
+            [256, 0],
+            [0, 300],
+        ]);
+        let record = minutiae(rng, counts);
+        let signature = rng.size(1, 4);
+        *bc = biometric(rng, false, &record, signature);
+        return;
+    }
+    let record = &mut bc[88..88 + data];
+    let first = usize::from(record[29]);
+    let second_view = (26 + 6 + 6 * first).min(data - 6);
+    let second = usize::from(record[second_view + 3]);
+    let (view, count) = if rng.one_in(2) { (26, first) } else { (second_view, second) };
+    match rng.below(22) {
+        0 => {
+            let at = rng.size(0, 3);
+            record[at] = rng.pick(&[0x00, 0x46, 0x4D, 0x52, 0x20]);
+        }
+        1 => {
+            let version = rng.pick(&[*b" 20\0", *b" 200", *b" 201", *b"020\0", *b" 30\0", *b" 2 \0"]);
+            record[4..8].copy_from_slice(&version);
+        }
+        2 => {
+            let length = u16::from_be_bytes([record[8], record[9]]);
+            let length =
+                rng.pick(&[length + 1, length.wrapping_sub(1), 0, 26, 38, u16::MAX, length ^ 0x100, length + 6]);
+            record[8..10].copy_from_slice(&length.to_be_bytes());
+        }
+        3 => {
+            let at = rng.size(10, 19);
+            record[at] = rng.pick(&[0x00, 0xFF, 0x80]);
+        }
+        4 | 5 => {
+            let at = rng.size(20, 23);
+            record[at] = rng.pick(&[0, 1, 196, 197, 198]);
+        }
+        6 => record[24] = rng.pick(&[0, 1, 2, 3, 255]),
+        7 => record[25] = rng.pick(&[0, 1, 255]),
+        8 => record[view] = rng.pick(&[0, 9, 10, 11, 12, 13, 255]),
+        9 => record[view + 1] = rng.pick(&[0x00, 0x01, 0x02, 0x03, 0x08, 0x0F, 0x10, 0x12, 0x20, 0x80, 0xF2]),
+        10 => record[view + 2] = rng.pick(&[0, 1, 10, 19, 20, 21, 39, 40, 60, 80, 99, 100, 101, 252, 253, 254, 255]),
+        11 => record[view + 2] = rng.byte(),
+        12 => {
+            record[view + 3] =
+                rng.pick(&[0, 1, 2, 127, 128, 129, 255, (count as u8).wrapping_add(1), (count as u8).wrapping_sub(1)])
+        }
+        13 => {
+            // Both counts, with their sum as it was.
+            if view + 3 < data && second_view + 3 < data && second > 0 && first < 128 {
+                record[29] += 1;
+                record[second_view + 3] -= 1;
+            }
+        }
+        14 => {
+            let at = view + 4 + 6 * count + rng.size(0, 1);
+            if at < data {
+                record[at] = rng.pick(&[1, 0x80, 0]);
+            }
+        }
+        15 => {
+            // The data part is longer or shorter by a few bytes; the header agrees.
+            let old_signature = u16::from_be_bytes([bc[6], bc[7]]);
+            let extra = rng.pick(&[1, 2, 6, 12]);
+            if rng.one_in(2) {
+                let insert = rng.bytes(extra);
+                let at = 88 + data;
+                bc.splice(at..at, insert);
+                set_lengths(bc, (data + extra) as u32, old_signature);
+                if rng.one_in(2) {
+                    bc[96..98].copy_from_slice(&((data + extra) as u16).to_be_bytes());
+                }
+            } else {
+                bc.drain(88 + data - extra..88 + data);
+                set_lengths(bc, (data - extra) as u32, old_signature);
+                if rng.one_in(2) {
+                    bc[96..98].copy_from_slice(&((data - extra) as u16).to_be_bytes());
+                }
+            }
+        }
+        16 => {
+            // The data part ends early, anywhere; the rest counts as signature.
+            let body = bc.len() - 88;
+            let kept = if rng.one_in(2) { rng.size(1, 40) } else { rng.size(1, data) };
+            if body - kept <= 65_535 {
+                set_lengths(bc, kept as u32, (body - kept) as u16);
+                if kept >= 10 && rng.one_in(2) {
+                    bc[96..98].copy_from_slice(&(kept as u16).to_be_bytes());
+                }
+            }
+        }
+        _ => {
+            if count > 0 {
+                let which = match rng.below(3) {
+                    0 => 0,
+                    1 => count - 1,
+                    _ => rng.below(count as u64) as usize,
+                };
+                let at = view + 4 + 6 * which;
+                if at + 6 <= data {
+                    match rng.below(6) {
+                        0 => record[at] = rng.pick(&[0x00, 0x3F, 0x40, 0x7F, 0x80, 0xBF, 0xC0, 0xFF]),
+                        1 => record[at + 1] = rng.byte(),
+                        2 => record[at + 2] = rng.pick(&[0x00, 0x3F, 0x40, 0x80, 0xC0, 0xFF]),
+                        3 => record[at + 3] = rng.byte(),
+                        4 => record[at + 4] = rng.pick(&[0, 178, 179, 180, 181, 255]),
+                        _ => record[at + 5] = rng.pick(&[0, 99, 100, 101, 128, 254, 255]),
+                    }
+                }
+            } else {
+                flip_bit(rng, &mut record[view..view + 6]);
+            }
+        }
+    }
+}
+
+/// Damages one value of the card, or its length or presence.
+fn damage_value(rng: &mut Rng, card: &mut Card) {
+    let table = card.table();
+    // Rows with a value rule come more often.
+    let mut row = rng.below(table.len() as u64) as usize;
+    for _ in 0..4 {
+        if table[row].rule != Rule::Any && card.rows[row].is_some() {
+            break;
+        }
+        row = rng.below(table.len() as u64) as usize;
+    }
+    let today = card.today;
+    let value = match &mut card.rows[row] {
+        Some(value) => value,
+        slot => {
+            if rng.one_in(2) {
+                let length = rng.size(0, 30);
+                *slot = Some(rng.bytes(length));
+            }
+            return;
+        }
+    };
+    match rng.below(if table[row].rule == Rule::Any { 3 } else { 16 }) {
+        0 => {
+            if rng.one_in(2) {
+                card.rows[row] = None;
+            } else if rng.one_in(2) {
+                value.clear();
+            } else {
+                value.push(0x20);
+            }
+        }
+        1 => {
+            let row = &table[row];
+            let longest = row.longest.min(4_000);
+            let length = match rng.below(8) {
+                0 => 0,
+                1 => row.shortest,
+                2 => row.shortest.saturating_sub(1),
+                3 => longest,
+                4 => longest + 1,
+                5 => value.len() + 1,
+                6 => value.len().saturating_sub(1),
+                _ => rng.size(0, 60),
+            };
+            value.resize(length, 0x20);
+        }
+        2 => {
+            flip_bit(rng, value);
+        }
+        _ => match table[row].rule {
+            Rule::Any => (),
+            Rule::Exactly(_) => match rng.below(3) {
+                0 => flip_bit(rng, value),
+                1 => {
+                    let at = value.len().saturating_sub(1);
+                    if let Some(byte) = value.get_mut(at) {
+                        *byte = rng.pick(&[0x00, 0x01, 0x0F, 0x10, 0x11, 0xFF]);
+                    }
+                }
+                _ => (),
+            },
+            Rule::Fascn => {
+                if value.len() == 25 {
+                    damage_fascn(rng, value);
+                }
+            }
+            Rule::Uuid => damage_uuid(rng, value),
+            Rule::Expiry => damage_expiry(rng, value, today),
+            Rule::Date => {
+                if rng.one_in(4) {
+                    damage_digits(rng, value);
+                } else {
+                    *value = eight(nearly_date(rng));
+                }
+            }
+            Rule::Policy => match rng.below(3) {
+                0 => *value = vec![rng.byte(), rng.pick(&[0x00, 0x10, 0x20, 0x30])],
+                1 => {
+                    if value.len() == 2 {
+                        value[0] ^= rng.pick(&[0x01, 0x02, 0x04, 0x08, 0x10, 0x20, 0x40, 0x80]);
+                    }
+                }
+                _ => {
+                    *value = policy(rng);
+                    value[1] = if rng.one_in(2) { rng.pick(&[0x00, 0x01, 0x10, 0x11, 0x20, 0x30]) } else { rng.byte() };
+                }
+            },
+            Rule::Text => damage_text(rng, value),
+            Rule::Fingers => {
+                if rng.one_in(2) {
+                    damage_header(rng, value);
+                } else {
+                    damage_minutiae(rng, value);
+                }
+                if rng.one_in(20) {
+                    damage_minutiae(rng, value);
+                    damage_header(rng, value);
+                }
+            }
+            Rule::Face => damage_header(rng, value),
+        },
+    }
+}
+
+// ---------------------------------------------------------------------------------------------
+// Damage to the form
+
+/// How a length is written.
+#[derive(Clone, Copy)]
+enum Form {
+    Fewest,
+    /// One byte, the length modulo 128.
+    Short,
+    /// 81 to 84 with as many bytes, whether or not fewer would do.
+    Long(usize),
+    /// This byte and none after it.
+    Raw(u8),
+}
+
+#[derive(Clone)]
+struct Item {
+    tag: u16,
+    form: Form,
+    delta: i64,
+    value: Vec<u8>,
+}
+
+/// A container in pieces.
+#[derive(Clone)]
+struct Loose {
+    outer: u8,
+    form: Form,
+    delta: i64,
+    items: Vec<Item>,
+    /// So many bytes of the content's end are left out, before the outer length is made.
+    cut: usize,
+    content_tail: Vec<u8>,
+    tail: Vec<u8>,
+}
+
+fn put_length(out: &mut Vec<u8>, length: usize, delta: i64, form: Form) {
+    let length = (length as i64 + delta).max(0) as usize;
+    let bytes = (length as u64).to_be_bytes();
+    let form = match (form, length) {
+        (Form::Fewest, 0..=127) => Form::Short,
+        (Form::Fewest, 128..=255) => Form::Long(1),
+        (Form::Fewest, 256..=65_535) => Form::Long(2),
+        (Form::Fewest, _) => Form::Long(3),
+        (form, _) => form,
+    };
+    match form {
+        Form::Short | Form::Fewest => out.push(length as u8 & 0x7F),
+        Form::Long(n) => {
+            out.push(0x80 + n as u8);
+            out.extend(&bytes[8 - n..]);
+        }
+        Form::Raw(byte) => out.push(byte),
+    }
+}
+
+impl Item {
+    fn new(tag: u16, value: Vec<u8>) -> Item {
+        Item { tag, form: Form::Fewest, delta: 0, value }
+    }
+}
+
+impl Loose {
+    fn bytes(&self) -> Vec<u8> {
+        let mut content = Vec::new();
+        for item in &self.items {
+            if item.tag > 0xFF {
+                content.push((item.tag >> 8) as u8);
+            }
+            content.push(item.tag as u8);
+            put_length(&mut content, item.value.len(), item.delta, item.form);
+            content.extend(&item.value);
+        }
+        content.truncate(content.len().saturating_sub(self.cut));
+        content.extend(&self.content_tail);
+        let mut out = vec![self.outer];
+        put_length(&mut out, content.len(), self.delta, self.form);
+        out.extend(content);
+        out.extend(&self.tail);
+        out
+    }
+}
+
+const TAGS: [u16; 40] = [
+    0xF0, 0xF1, 0xF2, 0xF3, 0xF4, 0xF5, 0xF6, 0xF7, 0xFA, 0xFB, 0xFC, 0xFD, 0xE3, 0xB4, 0xFE, 0xEE, 0x30, 0x32, 0x33,
+    0x34, 0x35, 0x36, 0x3E, 0x4F, 0x5F2F, 0x01, 0x02, 0x04, 0x05, 0x06, 0x07, 0x08, 0xBA, 0xBB, 0xBC, 0x5F, 0x2F, 0x53,
+    0x7E, 0x00,
+];
+
+fn any_tag(rng: &mut Rng, kind: u64) -> u16 {
+    let rows = card::kind_of(kind).map_or(&[][..], |kind| kind.rows);
+    match rng.below(10) {
+        0 => u16::from(rng.byte()),
+        1..=4 => rng.pick(&TAGS),
+        5 if kind == 3 => rng.pick(&[0x5F, 0x2F, 0x5F2F, 0x5F2E, 0x5F30, 0x5F00, 0x5F5F, 0x4F2F]),
+        _ if rows.is_empty() => 0x30,
+        _ => rng.pick(rows).tag,
+    }
+}
+
+fn any_form(rng: &mut Rng) -> Form {
+    match rng.below(12) {
+        0..=2 => Form::Long(1),
+        3..=5 => Form::Long(2),
+        6 => Form::Long(3),
+        7 => Form::Long(4),
+        8 => Form::Short,
+        9 => Form::Raw(0x80),
+        10 => Form::Raw(rng.pick(&[0x81, 0x82, 0x83, 0x84, 0x85, 0xFF, 0x7F])),
+        _ => Form::Raw(rng.byte()),
+    }
+}
+
+fn any_delta(rng: &mut Rng) -> i64 {
+    match rng.below(6) {
+        0 | 1 => 1,
+        2 | 3 => -1,
+        4 => rng.pick(&[2, -2, 3, 100, 128, 256, 65_535, -20]),
+        _ => rng.below(40) as i64 - 20,
+    }
+}
+
+fn damage_form(rng: &mut Rng, loose: &mut Loose, kind: u64) {
+    let count = loose.items.len() as u64;
+    let at = if count == 0 { 0 } else { rng.below(count) as usize };
+    match rng.below(24) {
+        0..=2 if count > 0 => {
+            loose.items.remove(at);
+        }
+        3 | 4 if count > 0 => {
+            let item = loose.items[at].clone();
+            let to = if rng.one_in(2) { at } else { rng.size(0, loose.items.len()) };
+            loose.items.insert(to, item);
+        }
+        5 | 6 if count > 1 => {
+            let other = if rng.one_in(2) { (at + 1) % count as usize } else { rng.below(count) as usize };
+            loose.items.swap(at, other);
+        }
+        7 | 8 if count > 0 => loose.items[at].tag = any_tag(rng, kind),
+        9 | 10 => {
+            let length = rng.pick(&[0, 0, 1, 2, 8, 15, 16]);
+            let item = Item::new(any_tag(rng, kind), rng.bytes(length));
+            let to = rng.size(0, loose.items.len());
+            loose.items.insert(to, item);
+        }
+        11..=13 if count > 0 => loose.items[at].form = any_form(rng),
+        14 | 15 if count > 0 => loose.items[at].delta = any_delta(rng),
+        16 => loose.outer = rng.pick(&[0x53, 0x7E, 0x5F, 0x00, 0x30, 0x52, 0x54, 0x73, 0xFE]),
+        17 => loose.form = any_form(rng),
+        18 => loose.delta = any_delta(rng),
+        19 => {
+            let more = rng.pick(&[1, 1, 2, 3, 10]);
+            loose.tail = if rng.one_in(2) { vec![0; more] } else { rng.bytes(more) };
+        }
+        20 => loose.cut = if rng.one_in(2) { rng.size(1, 4) } else { rng.size(1, 40) },
+        21 => {
+            // A last element whose length is cut short, or that lacks one.
+            let tag = any_tag(rng, kind);
+            let tag = if rng.one_in(2) { 0xFE } else { tag };
+            if rng.one_in(2) {
+                loose.items.pop();
+            }
+            loose.content_tail = if tag > 0xFF { vec![(tag >> 8) as u8, tag as u8] } else { vec![tag as u8] };
+            let more: &[u8] = rng.pick(&[
+                &[][..],
+                &[0x81],
+                &[0x82],
+                &[0x82, 0x01],
+                &[0x83],
+                &[0x80],
+                &[0x01],
+                &[0x05, 0x00],
+                &[0x81, 0x80],
+                &[0x82, 0x01, 0x00],
+                &[0x81, 0x7F],
+                &[0x84, 0, 0, 0, 0],
+            ]);
+            loose.content_tail.extend(more);
+            if kind == 3 && rng.one_in(2) {
+                loose.content_tail = rng
+                    .pick(&[
+                        &[0x5F][..],
+                        &[0x5F, 0x2F],
+                        &[0x5F, 0x2E, 0x00],
+                        &[0x2F, 0x02, 0x40, 0x00],
+                        &[0x5F, 0x02, 0x40, 0x00],
+                    ])
+                    .to_vec();
+            }
+        }
+        22 => {
+            let more = rng.size(1, 6);
+            loose.content_tail = rng.bytes(more);
+        }
+        _ if count > 0 => {
+            let length =
+                rng.pick(&[0, 1, 7, 8, 9, 15, 16, 17, 20, 21, 22, 25, 26, 30, 31, 48, 49, 125, 126, 127, 128, 129]);
+            loose.items[at].value.resize(length, 0x20);
+        }
+        _ => loose.items.clear(),
+    }
+}
+
+fn damage_bytes(rng: &mut Rng, bytes: &mut Vec<u8>) {
+    if bytes.is_empty() {
+        return;
+    }
+    // The front matters more than the end in long ones.
+    let span = if rng.one_in(3) { bytes.len().min(12) } else { bytes.len() };
+    let at = rng.below(span as u64) as usize;
+    match rng.below(12) {
+        0..=3 => bytes[at] ^= 1 << rng.below(8),
+        4 | 5 => bytes[at] = rng.byte(),
+        6 => bytes[at] = rng.pick(&[0x00, 0x01, 0x7F, 0x80, 0x81, 0x82, 0xFE, 0xFF]),
+        7 | 8 => bytes.truncate(at),
+        9 => {
+            bytes.remove(at);
+        }
+        10 => {
+            let new = rng.byte();
+            bytes.insert(at, new);
+        }
+        _ => {
+            let new = rng.byte();
+            bytes.push(new);
+        }
+    }
+}
+
+fn damage_sheet(rng: &mut Rng, sheet: &mut Vec<u8>, card: &Card) {
+    match rng.below(9) {
+        0 => {
+            let length = rng.size(0, sheet.len());
+            sheet.truncate(length);
+        }
+        1 => {
+            let length = sheet.len().saturating_sub(rng.size(1, 3));
+            sheet.truncate(length);
+        }
+        2 => {
+            let more = rng.pick(&[1, 1, 2, 3, 20]);
+            let more = if rng.one_in(2) { vec![0; more] } else { rng.bytes(more) };
+            sheet.extend(more);
+        }
+        3..=5 => {
+            // The count of one row.
+            let row = rng.below(card.rows.len() as u64) as usize;
+            let at: usize = card.rows[..row].iter().map(|value| 2 + value.as_ref().map_or(0, Vec::len)).sum();
+            let old = u16::from_be_bytes([sheet[at], sheet[at + 1]]);
+            let left = (sheet.len() - at - 2) as u16;
+            let new = rng.pick(&[
+                0,
+                1,
+                old.wrapping_add(1),
+                old.wrapping_sub(1),
+                u16::MAX,
+                left,
+                left.wrapping_add(1),
+                left.wrapping_add(2),
+                0x0100,
+                old ^ 0x0100,
+            ]);
+            sheet[at..at + 2].copy_from_slice(&new.to_be_bytes());
+        }
+        6 => sheet.clear(),
+        _ => damage_bytes(rng, sheet),
+    }
+}
+
+// ---------------------------------------------------------------------------------------------
+// Records
+
+fn strange_kind(rng: &mut Rng, kind: u64) -> u64 {
+    rng.pick(&[
+        0,
+        8,
+        9,
+        10,
+        255,
+        256 + kind,
+        65_536 + kind,
+        (1 << 32) + kind,
+        (1 << 63) + kind,
+        u64::MAX,
+        u64::MAX - kind,
+        kind << 8,
+        kind << 32,
+        48 + kind,
+    ])
+}
+
+fn strange_today(rng: &mut Rng, today: u64) -> u64 {
+    match rng.below(3) {
+        0 => nearly_date(rng),
+        1 => rng.pick(&[
+            today + (1 << 32),
+            today + (1 << 33),
+            today.wrapping_sub(1 << 32),
+            today + 100_000_000,
+            today % 10_000,
+            today / 100,
+        ]),
+        _ => rng.pick(&[
+            0,
+            1,
+            100,
+            101,
+            9_999,
+            10_000,
+            10_001,
+            10_100,
+            10_101,
+            10_132,
+            10_200,
+            11_301,
+            20230229,
+            21000229,
+            20000229,
+            20240229,
+            20260001,
+            20261301,
+            20260100,
+            20260132,
+            20260431,
+            20260430,
+            20260631,
+            20260931,
+            20261131,
+            20261231,
+            20261232,
+            99991231,
+            99991232,
+            99999999,
+            100_000_101,
+            100_010_101,
+            1_000_000_000,
+            u64::MAX,
+            u64::MAX - 1,
+            1 << 63,
+            u64::MAX / 10_000 * 10_000 + 101,
+        ]),
+    }
+}
+
+fn any_fill(rng: &mut Rng) -> u8 {
+    if rng.one_in(2) {
+        rng.pick(&[0x00, 0xFF, 0xAA])
+    } else {
+        rng.byte()
+    }
+}
+
+/// A room near what is needed.
+fn any_room(rng: &mut Rng, needed: usize) -> usize {
+    let room = match rng.below(40) {
+        0..=13 => needed,
+        14..=19 => needed + 1,
+        20..=25 => needed.saturating_sub(1),
+        26..=31 => needed + rng.size(2, 24),
+        32..=34 => rng.size(0, needed),
+        35 => 0,
+        36 => rng.pick(&[1, 2, 3, 4, 25]),
+        37 => rng.pick(&[511, 512, 513, 600]),
+        _ => needed + 64,
+    };
+    room.min(70_000)
+}
+
+fn report_room(rng: &mut Rng) -> usize {
+    match rng.below(20) {
+        0..=8 => REPORT_MAX,
+        9 | 10 => REPORT_MAX + 1,
+        11 => 600,
+        12..=14 => REPORT_MAX - 1,
+        15 => 0,
+        16 => rng.size(0, REPORT_MAX - 1),
+        17 => rng.pick(&[1, 255, 256, 510]),
+        _ => rng.size(REPORT_MAX, REPORT_MAX + 40),
+    }
+}
+
+fn view_tag(rng: &mut Rng, kind: u64) -> u64 {
+    let rows = card::kind_of(kind).map_or(&[][..], |kind| kind.rows);
+    match rng.below(20) {
+        0..=12 if !rows.is_empty() => u64::from(rng.pick(rows).tag),
+        13 | 14 => u64::from(rng.pick(&TAGS)),
+        15 => rng.pick(&[0x5F, 0x2F, 0x5F2F, 0x2F5F, 0xFE, 0, u64::MAX, 0x0100, 0xFEFE]),
+        16 if !rows.is_empty() => {
+            let tag = u64::from(rng.pick(rows).tag);
+            rng.pick(&[
+                tag + 256,
+                tag << 8,
+                tag + 65_536,
+                tag + (1 << 32),
+                tag + (1 << 63),
+                tag.wrapping_neg(),
+                tag | 0x5F00,
+                tag & 0xFF,
+            ])
+        }
+        17 => rng.below(256),
+        _ => rng.pick(&[0xFE, 0x30, 0xBC, 0x5F2F, 0x06]),
+    }
+}
+
+fn any_kind(rng: &mut Rng) -> u64 {
+    rng.pick(&[1, 1, 2, 2, 2, 3, 3, 4, 4, 5, 6, 6, 6, 6, 7, 7])
+}
+
+/// The inputs of a batch, one after the other.
+pub struct Inputs {
+    rng: Rng,
+    fixed: std::vec::IntoIter<Record>,
+}
+
+impl Inputs {
+    /// A batch begins with 01's examples and some edges, whatever the seed.
+    pub fn new(seed: u64) -> Inputs {
+        Inputs { rng: Rng::new(seed), fixed: fixed_records().into_iter() }
+    }
+
+    pub fn record(&mut self) -> Record {
+        match self.fixed.next() {
+            Some(record) => record,
+            None => random_record(&mut self.rng),
+        }
+    }
+}
+
+fn random_record(rng: &mut Rng) -> Record {
+    let mut record = match rng.below(1_000) {
+        0 | 1 => big_record(rng),
+        2..=59 => fascn_decode_record(rng),
+        60..=109 => fascn_encode_record(rng),
+        110..=289 => write_record(rng),
+        _ => container_record(rng),
+    };
+    if matches!(record.call, Call::FascnDecode | Call::FascnEncode) {
+        return record;
+    }
+    if rng.one_in(40) {
+        record.kind = strange_kind(rng, record.kind);
+    } else if rng.one_in(50) {
+        record.kind = any_kind(rng);
+    }
+    if rng.one_in(25) {
+        record.today = strange_today(rng, record.today);
+    }
+    record
+}
+
+/// A container, conforming or damaged.
+fn any_container(rng: &mut Rng, kind: u64) -> (Card, Vec<u8>) {
+    let mut card = conforming(rng, kind);
+    let plan = rng.below(20);
+    if (4..=11).contains(&plan) {
+        damage_value(rng, &mut card);
+        while rng.one_in(8) {
+            damage_value(rng, &mut card);
+        }
+    }
+    let mut loose = card.loose();
+    if (11..=16).contains(&plan) {
+        damage_form(rng, &mut loose, kind);
+        while rng.one_in(4) {
+            damage_form(rng, &mut loose, kind);
+        }
+    }
+    let mut bytes = loose.bytes();
+    if (16..=19).contains(&plan) {
+        damage_bytes(rng, &mut bytes);
+        while rng.one_in(8) {
+            damage_bytes(rng, &mut bytes);
+        }
+    }
+    bytes.truncate(66_000);
+    (card, bytes)
+}
+
+fn container_record(rng: &mut Rng) -> Record {
+    let kind = any_kind(rng);
+    let (card, bytes) = any_container(rng, kind);
+    let mut record = Record { call: Call::Check, kind, today: card.today, tag: 0, room: 0, fill: 0, bytes };
+    aim(rng, &mut record, &card);
+    record
+}
+
+/// Makes a record with a container a call of check, read, view or report.
+fn aim(rng: &mut Rng, record: &mut Record, card: &Card) {
+    match rng.below(16) {
+        0..=7 => record.call = Call::Check,
+        8..=10 => {
+            record.call = Call::Read;
+            record.room = any_room(rng, card.sheet().len());
+            record.fill = any_fill(rng);
+        }
+        11..=13 => {
+            record.call = Call::View;
+            record.tag = view_tag(rng, record.kind);
+        }
+        _ => {
+            record.call = Call::Report;
+            record.room = report_room(rng);
+            record.fill = any_fill(rng);
+        }
+    }
+}
+
+fn write_record(rng: &mut Rng) -> Record {
+    let kind = any_kind(rng);
+    let mut card = conforming(rng, kind);
+    let plan = rng.below(20);
+    if plan >= 12 {
+        damage_value(rng, &mut card);
+        while rng.one_in(4) {
+            damage_value(rng, &mut card);
+        }
+    }
+    let mut sheet = card.sheet();
+    if (6..=12).contains(&plan) {
+        damage_sheet(rng, &mut sheet, &card);
+    }
+    let room = any_room(rng, card.container().len());
+    Record { call: Call::Write, kind, today: card.today, tag: 0, room, fill: any_fill(rng), bytes: sheet }
+}
+
+/// A container or a sheet near the limit of 32,768 bytes.
+fn big_record(rng: &mut Rng) -> Record {
+    let kind = rng.pick(&[2, 6, 7]);
+    let total = match rng.below(10) {
+        0..=2 => CONTAINER_MAX,
+        3..=5 => CONTAINER_MAX + 1,
+        6 => CONTAINER_MAX - 1,
+        7 => CONTAINER_MAX + 2,
+        8 => rng.size(20_000, CONTAINER_MAX),
+        _ => rng.size(CONTAINER_MAX, 65_000),
+    };
+    let mut card = conforming_of_size(rng, kind, total);
+    if rng.one_in(3) {
+        let call = Call::Write;
+        if rng.one_in(12) {
+            // The longest section that a sheet can hold.
+            let last = card.rows.len() - 2;
+            card.rows[last] = Some(rng.bytes(65_534));
+        }
+        let room = if total > CONTAINER_MAX {
+            rng.pick(&[0, 0, 100, total])
+        } else {
+            rng.pick(&[0, total - 1, total, total + 1])
+        };
+        let mut bytes = card.sheet();
+        if rng.one_in(12) {
+            let at = rng.size(0, 200);
+            bytes[at] ^= 1 << rng.below(8);
+        }
+        bytes.truncate(66_000);
+        return Record { call, kind, today: card.today, tag: 0, room: room.min(70_000), fill: any_fill(rng), bytes };
+    }
+    let mut bytes = card.container();
+    if rng.one_in(3) {
+        match rng.below(3) {
+            0 => {
+                let at = rng.size(0, 200);
+                bytes[at] ^= 1 << rng.below(8);
+            }
+            1 => bytes[0] ^= 1,
+            _ => bytes.push(0),
+        }
+    }
+    let mut record = Record { call: Call::Check, kind, today: card.today, tag: 0, room: 0, fill: 0, bytes };
+    let needed = card.sheet().len();
+    match rng.below(12) {
+        0..=5 => (),
+        6 | 7 => {
+            record.call = Call::Read;
+            record.room =
+                if total > CONTAINER_MAX { rng.pick(&[0, 64]) } else { rng.pick(&[0, needed - 1, needed, needed + 1]) };
+            record.fill = any_fill(rng);
+        }
+        8 | 9 => {
+            record.call = Call::View;
+            record.tag = view_tag(rng, kind);
+        }
+        _ => {
+            record.call = Call::Report;
+            record.room = report_room(rng);
+            record.fill = any_fill(rng);
+        }
+    }
+    record
+}
+
+fn fascn_decode_record(rng: &mut Rng) -> Record {
+    let mut bytes = fascn(rng);
+    match rng.below(12) {
+        0..=2 => (),
+        3..=9 => damage_fascn(rng, &mut bytes),
+        10 => {
+            let length = rng.pick(&[0, 1, 5, 20, 24, 26, 30, 50]);
+            bytes.resize(length, 0);
+        }
+        _ => bytes = rng.bytes(25),
+    }
+    Record { call: Call::FascnDecode, kind: 0, today: 0, tag: 0, room: 0, fill: 0, bytes }
+}
+
+fn fascn_encode_record(rng: &mut Rng) -> Record {
+    let mut numbers = fascn_numbers(rng);
+    if rng.one_in(3) {
+        let which = rng.below(9) as usize;
+        let limit = LIMITS[which];
+        numbers[which] = rng.pick(&[limit, limit - 1, limit + 1, limit * 10, u64::MAX, 1 << 32, 1 << 63, 0]);
+    }
+    let room = match rng.below(12) {
+        0..=5 => 25,
+        6 => 24,
+        7 => 26,
+        8 => 0,
+        9 => rng.size(0, 24),
+        _ => rng.size(25, 60),
+    };
+    encode_record(&numbers, room, any_fill(rng))
+}
+
+fn encode_record(numbers: &[u64; 9], room: usize, fill: u8) -> Record {
+    let bytes = numbers.iter().flat_map(|number| number.to_be_bytes()).collect();
+    Record { call: Call::FascnEncode, kind: 0, today: 0, tag: 0, room, fill, bytes }
+}
+
+// ---------------------------------------------------------------------------------------------
+// Fixed inputs
+
+/// Today in 01's examples.
+pub const EXAMPLE_DAY: u64 = 20260301;
+
+/// The FASC-N of P1.
+pub const EXAMPLE_FASCN: [u8; 25] = [
+    0xD4, 0x11, 0x92, 0x58, 0x21, 0x0C, 0x2C, 0x10, 0x84, 0x21, 0xAD, 0xA1, 0x68, 0x58, 0x21, 0x08, 0x42, 0x10, 0x84,
+    0x3C, 0x84, 0x11, 0x92, 0x43, 0xEB,
+];
+
+/// The container of P13.
+pub const EXAMPLE_DISCOVERY: [u8; 20] = [
+    0x7E, 0x12, 0x4F, 0x0B, 0xA0, 0x00, 0x00, 0x03, 0x08, 0x00, 0x00, 0x10, 0x00, 0x01, 0x00, 0x5F, 0x2F, 0x02, 0x40,
+    0x00,
+];
+
+/// The container of case R, with another expiry date if asked.
+pub fn example_chuid(expiry: &[u8; 8]) -> Vec<u8> {
+    let mut out = vec![0x53, 59, 0x30, 25];
+    out.extend(EXAMPLE_FASCN);
+    out.extend([0x34, 16, 0, 1, 2, 3, 4, 5, 0x46, 7, 0x88, 9, 10, 11, 12, 13, 14, 15, 0x35, 8]);
+    out.extend(expiry);
+    out.extend([0x3E, 0, 0xFE, 0]);
+    out
+}
+
+/// A conforming container that is as small as its kind allows, or nearly so.
+pub fn small(kind: u64) -> Vec<u8> {
+    let mut rng = Rng::new(kind);
+    match kind {
+        1 => Card {
+            kind,
+            today: EXAMPLE_DAY,
+            rows: (0..15)
+                .map(|row| match row {
+                    5 => Some(vec![0x10]),
+                    12 | 13 => None,
+                    _ => Some(Vec::new()),
+                })
+                .collect(),
+        }
+        .container(),
+        2 => example_chuid(b"20300131"),
+        3 => EXAMPLE_DISCOVERY.to_vec(),
+        4 => {
+            let texts: [&[u8]; 5] = [b"ANN EXAMPLE", b"STAFF", b"20301231", b"0042", b"ISSUER 00000001"];
+            let mut rows: Vec<_> = texts.iter().map(|text| Some(text.to_vec())).collect();
+            rows.extend([None, None, Some(Vec::new())]);
+            Card { kind, today: EXAMPLE_DAY, rows }.container()
+        }
+        5 => vec![0x53, 0x08, 0xBA, 0x01, 0x07, 0xBB, 0x01, 0x09, 0xFE, 0x00],
+        6 => {
+            let data = minutiae(&mut rng, [1, 0]);
+            let bc = biometric(&mut rng, false, &data, 1);
+            Card { kind, today: EXAMPLE_DAY, rows: vec![Some(bc), Some(Vec::new())] }.container()
+        }
+        _ => {
+            let bc = biometric(&mut rng, true, &[1], 1);
+            Card { kind, today: EXAMPLE_DAY, rows: vec![Some(bc), Some(Vec::new())] }.container()
+        }
+    }
+}
+
+fn fixed_records() -> Vec<Record> {
+    let mut out = Vec::new();
+    let plain = |call, kind, bytes: Vec<u8>| Record { call, kind, today: EXAMPLE_DAY, tag: 0, room: 0, fill: 0, bytes };
+    let mut wrong = EXAMPLE_FASCN.to_vec();
+    wrong[24] = 0xEA;
+    for bytes in [EXAMPLE_FASCN.to_vec(), wrong] {
+        out.push(Record { today: 0, ..plain(Call::FascnDecode, 0, bytes) });
+    }
+    out.push(encode_record(&[1234, 1, 5, 1, 1, 7, 1, 1234, 1], 25, 0xA5));
+    for room in [24, 25] {
+        out.push(encode_record(&[10_000, 1, 5, 1, 1, 7, 1, 1234, 1], room, 0xA5));
+    }
+    for expiry in [b"20300131", b"20320301", b"20320302", b"20260301", b"20260228", b"20280229", b"20290229"] {
+        out.push(plain(Call::Check, 2, example_chuid(expiry)));
+    }
+    out.push(plain(Call::Check, 3, EXAMPLE_DISCOVERY.to_vec()));
+    let mut wrong = EXAMPLE_DISCOVERY.to_vec();
+    wrong[18] = 0x60;
+    out.push(plain(Call::Check, 3, wrong));
+    for kind in 1..=7 {
+        let container = small(kind);
+        for bytes in [
+            Vec::new(),
+            vec![0x53],
+            vec![0x7E],
+            vec![0x53, 0x00],
+            vec![0x7E, 0x00],
+            vec![0x53, 0x80],
+            container.clone(),
+        ] {
+            out.push(plain(Call::Check, kind, bytes));
+        }
+        for room in [0, 511, 512, 513, 600] {
+            out.push(Record { room, fill: 0xA5, ..plain(Call::Report, kind, container.clone()) });
+            out.push(Record { room, fill: 0xA5, ..plain(Call::Report, kind, vec![0x53, 0x00]) });
+        }
+        for row in card::kind_of(kind).map_or(&[][..], |kind| kind.rows) {
+            out.push(Record { tag: u64::from(row.tag), ..plain(Call::View, kind, container.clone()) });
+        }
+        for tag in [0x5F, 0x2F, 0x5F2F, 0xFE, 0, u64::MAX] {
+            out.push(Record { tag, ..plain(Call::View, kind, container.clone()) });
+        }
+        if kind >= 6 {
+            for quality in [0xFD, 0xFE, 0xFF, 0x00, 0x64, 0x65, 0x7F, 0x80] {
+                let mut bytes = container.clone();
+                let header = bytes.iter().position(|&byte| byte == 0xBC).unwrap_or(0) + 3;
+                let header = header - usize::from(bytes[header - 1] == 0x03);
+                bytes[header + 40] = quality;
+                out.push(plain(Call::Check, kind, bytes));
+            }
+        }
+        for strange in [0, 8, u64::MAX] {
+            for today in [EXAMPLE_DAY, 0] {
+                out.push(Record {
+                    kind: strange,
+                    today,
+                    ..plain(Call::Check, kind, vec![0; 32_769 * usize::from(kind == 1)])
+                });
+            }
+        }
+    }
+    for today in [0, 10_101, 99991231, 20230229, 99999999, u64::MAX] {
+        out.push(Record { today, ..plain(Call::Check, 3, EXAMPLE_DISCOVERY.to_vec()) });
+        out.push(Record { today, room: 512, fill: 0xA5, ..plain(Call::Report, 3, EXAMPLE_DISCOVERY.to_vec()) });
+    }
+    out
+}
+
+/// Every container that differs from a small conforming one in one byte, and itself: checks.
+pub fn sweep<F: FnMut(&Record)>(mut take: F) {
+    for kind in 1..=7 {
+        let container = small(kind);
+        let mut record =
+            Record { call: Call::Check, kind, today: EXAMPLE_DAY, tag: 0, room: 0, fill: 0, bytes: container.clone() };
+        for (at, &original) in container.iter().enumerate() {
+            for value in 0..=255 {
+                record.bytes[at] = value;
+                take(&record);
+            }
+            record.bytes[at] = original;
+        }
+    }
+}
+
+/// Sample number `n` of a kind, for the day of 01's examples: conforming, or damaged.
+pub fn sample(kind: u64, good: bool, n: u64) -> Vec<u8> {
+    let mut rng = Rng::new(n.wrapping_mul(1_000_003).wrapping_add(kind));
+    loop {
+        let mut card = conforming_on(&mut rng, kind, EXAMPLE_DAY);
+        if good {
+            return card.container();
+        }
+        if rng.one_in(2) {
+            damage_value(&mut rng, &mut card);
+        }
+        let mut loose = card.loose();
+        if rng.one_in(2) {
+            damage_form(&mut rng, &mut loose, kind);
+        }
+        let bytes = loose.bytes();
+        if card::check(kind, EXAMPLE_DAY, &bytes).0 != 0 {
+            return bytes;
+        }
+    }
+}
+
+/// Standard input number `n` for the desk program.
+pub fn desk_input(n: u64) -> Vec<u8> {
+    let mut rng = Rng::new(n ^ 0x6465_736B);
+    let kind = any_kind(&mut rng);
+    let (card, container) = if rng.one_in(30) {
+        let total = rng.pick(&[CONTAINER_MAX - 1, CONTAINER_MAX, CONTAINER_MAX + 1, CONTAINER_MAX + 9, 50_000]);
+        let card = conforming_of_size(&mut rng, rng_kind(kind), total);
+        let container = card.container();
+        (card, container)
+    } else {
+        any_container(&mut rng, kind)
+    };
+    let mut out = format!("{}{:08}", card.kind, card.today).into_bytes();
+    match rng.below(12) {
+        0 => out[0] = rng.pick(&[b'0', b'1', b'7', b'8', b'9', 0, 2, b' ', b'\n', 0xFF]),
+        1 => {
+            let at = rng.size(1, 8);
+            out[at] = rng.pick(&[b'/', b'0', b'9', b':', b' ', 0, b'\n', 0xB0]);
+        }
+        2 => out[1..].copy_from_slice(&eight(nearly_date(&mut rng))),
+        3 => {
+            let length = rng.size(0, 9);
+            out.truncate(length);
+            return out;
+        }
+        _ => (),
+    }
+    out.extend(container);
+    out
+}
+
+fn rng_kind(kind: u64) -> u64 {
+    if matches!(kind, 2 | 6) {
+        kind
+    } else {
+        7
+    }
+}

@@ -1,0 +1,46 @@
+//! The independent second program: it checks, reads, writes, views and reports PIV data containers.
+//!
+//! It is written from the scope page (01) and its list of decided points alone, and serves as the
+//! partner that the proved program is compared with, and as the speed baseline.
+
+pub mod batch;
+pub mod card;
+pub mod generate;
+pub mod report;
+pub mod values;
+
+pub use card::{check, read, view, write};
+pub use report::{desk, report};
+pub use values::{fascn_decode, fascn_encode};
+
+/// The numbers of 01's table.
+pub mod number {
+    pub const DONE: u64 = 0;
+    pub const KIND: u64 = 1;
+    pub const TODAY: u64 = 2;
+    pub const ROOM: u64 = 3;
+    pub const TOO_LONG: u64 = 4;
+    pub const SHEET: u64 = 5;
+    pub const NO_ELEMENT: u64 = 6;
+    pub const DIGITS: u64 = 7;
+    pub const REPORT_TOO_LONG: u64 = 8;
+    pub const OUTER_TAG: u64 = 10;
+    pub const LENGTH_FORM: u64 = 11;
+    pub const PAST_END: u64 = 12;
+    pub const UNKNOWN_TAG: u64 = 13;
+    pub const ORDER: u64 = 14;
+    pub const MISSING: u64 = 15;
+    pub const ELEMENT_LENGTH: u64 = 16;
+    pub const FASCN: u64 = 17;
+    pub const UUID: u64 = 18;
+    pub const DATE: u64 = 19;
+    pub const FIXED: u64 = 20;
+    pub const HEADER: u64 = 21;
+    pub const MINUTIAE: u64 = 22;
+    pub const TEXT: u64 = 23;
+}
+
+/// A container has at most this many bytes.
+pub const CONTAINER_MAX: usize = 32_768;
+/// A report has at most this many bytes, and asks for a room of at least as many.
+pub const REPORT_MAX: usize = 512;

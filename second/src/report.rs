@@ -1,0 +1,193 @@
+//! The desk report and the desk program.
+
+use crate::card::{self, Spans};
+use crate::values;
+use crate::{number, CONTAINER_MAX, REPORT_MAX};
+
+/// The page that a report is written on; what does not fit any more is counted only.
+struct Page<'a> {
+    room: &'a mut [u8],
+    length: usize,
+}
+
+impl Page<'_> {
+    fn bytes(&mut self, bytes: &[u8]) {
+        let end = self.length + bytes.len();
+        if let Some(slot) = self.room.get_mut(self.length..end) {
+            slot.copy_from_slice(bytes);
+        }
+        self.length = end;
+    }
+
+    fn text(&mut self, text: &str) {
+        self.bytes(text.as_bytes());
+    }
+
+    /// Decimal, with zeros in front up to `width` digits.
+    fn decimal(&mut self, number: u64, width: usize) {
+        let mut digits = [b'0'; 20];
+        let mut at = digits.len();
+        let mut rest = number;
+        loop {
+            at -= 1;
+            digits[at] = b'0' + (rest % 10) as u8;
+            rest /= 10;
+            if rest == 0 {
+                break;
+            }
+        }
+        self.bytes(&digits[at.min(digits.len() - width)..]);
+    }
+
+    fn hex(&mut self, bytes: &[u8]) {
+        const DIGITS: &[u8; 16] = b"0123456789ABCDEF";
+        for &byte in bytes {
+            self.bytes(&[DIGITS[usize::from(byte >> 4)], DIGITS[usize::from(byte & 15)]]);
+        }
+    }
+
+    fn end_line(&mut self) {
+        self.bytes(b"\n");
+    }
+
+    fn line(&mut self, name: &str, number: u64, width: usize) {
+        self.text(name);
+        self.bytes(b" ");
+        self.decimal(number, width);
+        self.end_line();
+    }
+}
+
+/// Writes the report on a container into the room: number and length of the report.
+pub fn report(kind: u64, today: u64, container: &[u8], room: &mut [u8]) -> (u64, u64) {
+    match try_report(kind, today, container, room) {
+        Ok(length) => {
+            room[length..].fill(0);
+            (number::DONE, length as u64)
+        }
+        Err(number) => {
+            room.fill(0);
+            (number, 0)
+        }
+    }
+}
+
+fn try_report(kind_number: u64, today: u64, container: &[u8], room: &mut [u8]) -> Result<usize, u64> {
+    let kind = card::admit(kind_number, today)?;
+    if room.len() < REPORT_MAX {
+        return Err(number::ROOM);
+    }
+    if container.len() > CONTAINER_MAX {
+        return Err(number::TOO_LONG);
+    }
+
+    let mut spans = Spans::none();
+    let mut elements = 0;
+    let verdict = card::walk(kind, today, container, |row, start, end| {
+        spans.set(row, start, end);
+        elements += 1;
+    });
+
+    let mut page = Page { room: &mut room[..REPORT_MAX], length: 0 };
+    page.text("CARD 4\nkind ");
+    page.text(kind.name);
+    page.end_line();
+    page.line("bytes", container.len() as u64, 1);
+    page.line("today", today, 8);
+    page.text("verdict ");
+    match verdict {
+        Err((number, place)) => {
+            page.decimal(number, 1);
+            page.bytes(b" ");
+            page.decimal(place, 1);
+            page.text("\nELEMENTS 0\nOPEN 0\n");
+        }
+        Ok(()) => {
+            page.text("0 0\n");
+            page.line("ELEMENTS", elements, 1);
+            for (i, row) in kind.rows.iter().enumerate() {
+                if let Some(value) = spans.value(i, container) {
+                    let tag = row.tag.to_be_bytes();
+                    page.hex(if row.tag > 0xFF { &tag } else { &tag[1..] });
+                    page.bytes(b" ");
+                    page.decimal(value.len() as u64, 1);
+                    page.end_line();
+                }
+            }
+            open_values(&mut page, kind_number, |tag| {
+                let row = kind.rows.iter().position(|row| row.tag == tag);
+                row.and_then(|row| spans.value(row, container)).unwrap_or(&[])
+            });
+        }
+    }
+    if page.length > REPORT_MAX {
+        return Err(number::REPORT_TOO_LONG);
+    }
+    Ok(page.length)
+}
+
+/// The section OPEN of a conforming container, whose mandatory values `value` finds by tag.
+fn open_values<'a, F>(page: &mut Page, kind: u64, value: F)
+where
+    F: Fn(u16) -> &'a [u8],
+{
+    match kind {
+        1 => {
+            page.text("OPEN 1\nmodel ");
+            page.hex(value(0xF5));
+            page.end_line();
+        }
+        2 => {
+            page.text("OPEN 3\n");
+            agency_and_system(page, value(0x30));
+            page.text("expires ");
+            page.bytes(value(0x35));
+            page.end_line();
+        }
+        3 => {
+            page.text("OPEN 1\npolicy ");
+            page.hex(value(0x5F2F));
+            page.end_line();
+        }
+        4 => {
+            page.text("OPEN 1\nissuer ");
+            page.bytes(value(0x06));
+            page.end_line();
+        }
+        6 | 7 => {
+            page.text("OPEN 2\n");
+            agency_and_system(page, &value(0xBC)[values::HEADER_FASCN]);
+        }
+        _ => page.text("OPEN 0\n"),
+    }
+}
+
+fn agency_and_system(page: &mut Page, fascn: &[u8]) {
+    let (_, numbers) = values::fascn_decode(fascn);
+    page.line("agency", numbers[0], 4);
+    page.line("system", numbers[1], 4);
+}
+
+/// The bytes of standard input that the desk program looks at.
+pub const DESK_INPUT_MAX: usize = CONTAINER_MAX + 10;
+
+/// What the desk program prints for its standard input.
+pub fn desk(input: &[u8]) -> Vec<u8> {
+    let mut room = [0u8; REPORT_MAX];
+    match try_desk(input, &mut room) {
+        Ok(length) => room[..length as usize].to_vec(),
+        Err(number) => format!("refused {}\n", number).into_bytes(),
+    }
+}
+
+fn try_desk(input: &[u8], room: &mut [u8]) -> Result<u64, u64> {
+    let kind = match input.first() {
+        Some(&digit @ b'1'..=b'7') => u64::from(digit - b'0'),
+        _ => return Err(number::KIND),
+    };
+    let today = input.get(1..9).and_then(values::eight_digits).ok_or(number::TODAY)?;
+    match report(kind, today, &input[9..], room) {
+        (number::DONE, length) => Ok(length),
+        (number, _) => Err(number),
+    }
+}

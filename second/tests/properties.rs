@@ -1,0 +1,203 @@
+//! Properties over generated inputs.
+
+use second::card;
+use second::generate::{conforming, conforming_of_size, personal_twin, small, Inputs, Rng, EXAMPLE_DAY};
+use second::{check, read, report, view, write};
+
+const ROUNDS: usize = 3_000;
+
+fn report_of(kind: u64, today: u64, container: &[u8]) -> Vec<u8> {
+    let mut room = [0xAA; 512];
+    let (number, length) = report(kind, today, container, &mut room);
+    assert_eq!(number, 0);
+    assert!(room[length as usize..].iter().all(|&byte| byte == 0));
+    room[..length as usize].to_vec()
+}
+
+#[test]
+fn round_trips() {
+    let mut rng = Rng::new(1);
+    for kind in 1..=7 {
+        for _ in 0..ROUNDS {
+            let card = conforming(&mut rng, kind);
+            let (container, sheet) = (card.container(), card.sheet());
+            assert_eq!(check(kind, card.today, &container), (0, 0));
+
+            let mut room = vec![0xAA; sheet.len() + 3];
+            assert_eq!(read(kind, card.today, &container, &mut room), (0, 0, sheet.len() as u64));
+            assert_eq!(room[..sheet.len()], sheet);
+            assert_eq!(room[sheet.len()..], [0; 3]);
+            let mut room = vec![0xAA; container.len() + 3];
+            assert_eq!(write(kind, card.today, &sheet, &mut room), (0, 0, container.len() as u64));
+            assert_eq!(room[..container.len()], container);
+            assert_eq!(room[container.len()..], [0; 3]);
+
+            // The smallest rooms.
+            let mut room = vec![0xAA; sheet.len()];
+            assert_eq!(read(kind, card.today, &container, &mut room).0, 0);
+            let mut room = vec![0xAA; sheet.len() - 1];
+            assert_eq!(read(kind, card.today, &container, &mut room), (3, 0, 0));
+            assert!(room.iter().all(|&byte| byte == 0));
+            let mut room = vec![0xAA; container.len()];
+            assert_eq!(write(kind, card.today, &sheet, &mut room).0, 0);
+            let mut room = vec![0xAA; container.len() - 1];
+            assert_eq!(write(kind, card.today, &sheet, &mut room), (3, 0, 0));
+            assert!(room.iter().all(|&byte| byte == 0));
+
+            // Each value is viewed where the sheet has it.
+            for (row, value) in card::kind_of(kind).unwrap().rows.iter().zip(&card.rows) {
+                let (number, place, part) = view(kind, card.today, &container, u64::from(row.tag));
+                match value {
+                    None => assert_eq!((number, place, part.len()), (6, 0, 0)),
+                    Some(value) => assert_eq!((number, place, part), (0, 0, &value[..])),
+                }
+            }
+        }
+    }
+}
+
+#[test]
+fn limits() {
+    let mut rng = Rng::new(2);
+    for kind in [2, 6, 7] {
+        for _ in 0..20 {
+            let card = conforming_of_size(&mut rng, kind, 32_768);
+            let (container, sheet) = (card.container(), card.sheet());
+            assert_eq!(container.len(), 32_768);
+            assert_eq!(check(kind, card.today, &container), (0, 0));
+            let mut room = vec![0xAA; 32_769];
+            assert_eq!(write(kind, card.today, &sheet, &mut room), (0, 0, 32_768));
+            assert_eq!(room[..32_768], container);
+            assert_eq!(room[32_768], 0);
+            let mut room = vec![0xAA; sheet.len()];
+            assert_eq!(read(kind, card.today, &container, &mut room), (0, 0, sheet.len() as u64));
+            assert_eq!(room, sheet);
+            assert_eq!(write(kind, card.today, &sheet, &mut [0xAA; 10]), (3, 0, 0));
+
+            let card = conforming_of_size(&mut rng, kind, 32_769);
+            let (container, sheet) = (card.container(), card.sheet());
+            assert_eq!(container.len(), 32_769);
+            assert_eq!(check(kind, card.today, &container), (4, 0));
+            let mut room = vec![0xAA; 40_000];
+            assert_eq!(write(kind, card.today, &sheet, &mut room), (4, 0, 0));
+            assert!(room.iter().all(|&byte| byte == 0));
+            assert_eq!(write(kind, card.today, &sheet, &mut [0xAA; 10]), (4, 0, 0));
+            assert_eq!(report(kind, card.today, &container, &mut room), (4, 0));
+        }
+    }
+    // The longest section: 65,534 bytes of 3E.
+    let mut card = conforming(&mut rng, 2);
+    card.rows[7] = Some(vec![0; 65_534]);
+    assert_eq!(write(2, card.today, &card.sheet(), &mut []), (4, 0, 0));
+}
+
+/// Demand 3: a report does not change with personal bytes that keep the rules.
+#[test]
+fn reports_hide_personal_bytes() {
+    let mut rng = Rng::new(3);
+    let mut changed = [0; 8];
+    for kind in 1..=7 {
+        for _ in 0..ROUNDS {
+            let card = conforming(&mut rng, kind);
+            let twin = personal_twin(&mut rng, &card);
+            let (one, other) = (card.container(), twin.container());
+            assert_eq!(check(kind, card.today, &other), (0, 0));
+            assert_eq!(report_of(kind, card.today, &one), report_of(kind, card.today, &other));
+            changed[kind as usize] += usize::from(one != other);
+        }
+        // DISCOVERY has no personal bytes.
+        assert!(if kind == 3 { changed[3] == 0 } else { changed[kind as usize] > ROUNDS / 2 });
+    }
+}
+
+/// Its converse: lengths, presence and open values show.
+#[test]
+fn reports_show_open_values() {
+    let mut rng = Rng::new(4);
+    for kind in 1..=7 {
+        for _ in 0..ROUNDS {
+            let one = conforming(&mut rng, kind);
+            let mut other = conforming(&mut rng, kind);
+            other.today = one.today;
+            if check(kind, other.today, &other.container()) != (0, 0) {
+                continue;
+            }
+            let open = |card: &second::generate::Card| -> Vec<u8> {
+                let mut out: Vec<u8> =
+                    card.rows.iter().flat_map(|v| v.as_ref().map_or(0, |v| v.len() + 1).to_be_bytes()).collect();
+                let value = |row: usize| card.rows[row].clone().unwrap();
+                let fascn = |bytes: &[u8]| {
+                    let (_, numbers) = second::fascn_decode(bytes);
+                    [numbers[0].to_be_bytes(), numbers[1].to_be_bytes()].concat()
+                };
+                match kind {
+                    2 => {
+                        out.extend(fascn(&value(1)));
+                        out.extend(value(5));
+                    }
+                    3 => out.extend(value(1)),
+                    4 => out.extend(value(4)),
+                    6 | 7 => out.extend(fascn(&value(0)[59..84])),
+                    _ => (),
+                }
+                out
+            };
+            let same = report_of(kind, one.today, &one.container()) == report_of(kind, one.today, &other.container());
+            assert_eq!(same, open(&one) == open(&other));
+        }
+    }
+}
+
+/// What one call answers fits what the others answer.
+#[test]
+fn calls_agree() {
+    let mut inputs = Inputs::new(5);
+    for _ in 0..60_000 {
+        let record = inputs.record();
+        let (kind, today, bytes) = (record.kind, record.today, &record.bytes[..]);
+        if record.call as u8 >= 6 {
+            continue;
+        }
+        let (number, place) = check(kind, today, bytes);
+        let mut room = vec![0xAA; bytes.len() + 40];
+        let (read_number, read_place, length) = read(kind, today, bytes, &mut room);
+        assert_eq!((read_number, read_place), (number, place));
+        assert!(room[length as usize..].iter().all(|&byte| byte == 0));
+        assert_eq!(view(kind, today, bytes, 0).0, if number == 0 { 6 } else { number });
+        if number == 0 {
+            let sheet = room[..length as usize].to_vec();
+            let mut room = vec![0xAA; bytes.len()];
+            assert_eq!(write(kind, today, &sheet, &mut room), (0, 0, bytes.len() as u64));
+            assert_eq!(room, bytes);
+        } else {
+            assert_eq!(length, 0);
+        }
+        let mut room = vec![0xAA; 600];
+        let (report_number, length) = report(kind, today, bytes, &mut room);
+        assert_eq!(report_number, if number <= 4 { number } else { 0 });
+        if report_number == 0 {
+            let text = String::from_utf8(room[..length as usize].to_vec()).unwrap();
+            assert!(text.contains(&format!("\nverdict {} {}\n", number, place)));
+        }
+
+        // A sheet that is written is read back.
+        let mut room = vec![0xAA; 40_000];
+        let (number, _, length) = write(kind, today, bytes, &mut room);
+        if number == 0 {
+            let container = room[..length as usize].to_vec();
+            assert_eq!(check(kind, today, &container), (0, 0));
+            let mut room = vec![0xAA; bytes.len()];
+            assert_eq!(read(kind, today, &container, &mut room), (0, 0, bytes.len() as u64));
+            assert_eq!(room, bytes);
+        } else {
+            assert!(room.iter().all(|&byte| byte == 0));
+        }
+    }
+}
+
+#[test]
+fn small_ones_conform() {
+    for kind in 1..=7 {
+        assert_eq!(check(kind, EXAMPLE_DAY, &small(kind)), (0, 0), "kind {}", kind);
+    }
+}
