@@ -32,16 +32,19 @@ module _ (kind today : ℕ) (c : List ℕ) where
   over-kind : 7 < kind → isKind kind ≡ false
   over-kind h = let l : 1 ≤ kind = omega arith in simp (le-leb 1 kind l, lt-leb kind 7 h)
 
+  pub not-kind : (ltb kind 1 || ltb 7 kind) ≡ true → isKind kind ≡ false
+  not-kind e = either (ltb kind 1) (ltb 7 kind) (λ p. no-kind (ltb-true _ _ p)) (λ p. over-kind (ltb-true _ _ p)) e
+
   pub bad-kind : (ltb kind 1 || ltb 7 kind) ≡ true → Broken UnknownKind 0 ≡ outcome kind today c
   unfolding outcome parsed
-  bad-kind e = let k : isKind kind ≡ false = either (ltb kind 1) (ltb 7 kind) (λ p. no-kind (ltb-true _ _ p)) (λ p. over-kind (ltb-true _ _ p)) e in rw k
+  bad-kind e = rw (not-kind e)
 
   good-kind : (a b : Bool) → (a || b) ≡ false → (a ≡ false) × (b ≡ false)
   good-kind true b e = let z : _≡_ {A = ℕ} 0 1 = cc in absurd (omega arith)
   good-kind false b e = (refl, e)
 
   module _ (e : (ltb kind 1 || ltb 7 kind) ≡ false) where
-    kind-good : isKind kind ≡ true
+    pub kind-good : isKind kind ≡ true
     kind-good =
         let p = good-kind (ltb kind 1) (ltb 7 kind) e in
         simp (le-leb 1 kind (ltb-false _ _ (p .0)), le-leb kind 7 (ltb-false _ _ (p .1)))

@@ -2,20 +2,20 @@
 use Prim.Native.Nat.{ℕ, _-_, _≤_, _<_}
 use mathlib.Core.Path.{_≡_, refl, sym, ap, _∙_}
 use mathlib.Core.Logic.{inl, inr}
-use mathlib.Core.Bool.{Bool, true, false, cond, _||_}
+use mathlib.Core.Bool.{true, false}
 use mathlib.Core.List.{List, [], _∷_}
 use native.Mathlib.Omega.{arith}
 use lib.Dec.{ltb, leb}
-use lib.ListN.{length, take, drop, length-take, length-drop}
-use borrow.Author.Tests.{ltb-false, leb-true}
-use Rattle.laws.specs.Room.{zeros, filled, Put}
+use lib.ListN.{length, getD, take, drop, length-take, length-drop, length-replicate}
+use borrow.Author.Tests.{ltb-false}
+use Rattle.laws.specs.Room.{zeros, Put}
 use Rattle.laws.proofs.Cases.{which}
-use Rattle.laws.proofs.Rooms.{filled-put, filled-none}
+use Rattle.laws.proofs.Rooms.{filled-put, filled-none, same-text}
 use Rattle.dates.specs.Date.{isDate, dateOf}
 use Rattle.dates.specs.declared.Date.the-variants.{Is, Not}
+use Rattle.dates.proofs.Texts.{text-long}
 use Rattle.kinds.specs.Tables.{isKind}
-use Rattle.verdicts.specs.Verdicts.{numberOf}
-use Rattle.verdicts.specs.Output.{Output, refusal, text, doneOf, bytesOf, Leaves}
+use Rattle.verdicts.specs.Output.{Output, refusal, text, Leaves}
 use Rattle.verdicts.specs.declared.Done.{Done}
 use Rattle.verdicts.specs.declared.Fault.{Fault}
 use Rattle.verdicts.proofs.Apart.{never-zero}
@@ -23,13 +23,24 @@ use Rattle.container.specs.Container.{largest}
 use Rattle.container.specs.Reading.{outer}
 use Rattle.report.specs.Report.{reportText}
 use Rattle.report.specs.Calls.{fitting, reportOutput}
-use Rattle.desk.specs.Desk.{kindDigit, dated, deskOutput, refusedText, printed, deskText}
+use Rattle.desk.specs.Desk.{kindDigit, deskOutput, refusedText, printed, deskText}
 
 -- ---- the kind's digit
 
 pub no-digit : (s : List ℕ) → length s ≡ 0 → 0 ≡ kindDigit s
 no-digit [] h = refl
 no-digit (b ∷ s) h = absurd (omega arith)
+
+pub low-digit : (s : List ℕ) {b : ℕ} → (length s ≡ 0 → ⊥) → b ≡ getD s 0 0 → b < 48 → 0 ≡ kindDigit s
+low-digit [] z e h = absurd (z refl)
+low-digit (x ∷ s) z e h = omega arith
+
+pub a-digit : (s : List ℕ) {b : ℕ} → (length s ≡ 0 → ⊥) → b ≡ getD s 0 0 → b - 48 ≡ kindDigit s
+a-digit [] z e = absurd (z refl)
+a-digit (x ∷ s) z e = rw e
+
+take-short : (n : ℕ) (l : List ℕ) → length (take n l) ≤ length l
+take-short n l = rw length-take (omega arith)
 
 -- ---- what is printed
 
@@ -42,6 +53,12 @@ module _ (s : List ℕ) (room : ℕ) where
     pub no-date : dateOf (take 8 (drop 1 s)) ≡ Not → refusedText 2 ≡ deskText s room
     unfolding deskText deskOutput
     no-date d = rw (k, d)
+
+    -- a date that is cut short
+    pub cut-date : length s < 9 → refusedText 2 ≡ deskText s room
+    cut-date h =
+        let n : length (take 8 (drop 1 s)) ≡ 8 → ⊥ = λ e. omega (arith, take-short 8 (drop 1 s), length-drop 1 s) in
+        no-date (sym (text-long (take 8 (drop 1 s)) n))
 
     pub dated-text : {today : ℕ} → dateOf (take 8 (drop 1 s)) ≡ Is today → printed (reportOutput (kindDigit s) today (drop 9 s) room) ≡ deskText s room
     unfolding deskText deskOutput
@@ -93,3 +110,23 @@ shows (text t) d fit l z = rw (l .room, ap (λ (x : Done). x .length) (l .answer
 pub tells : (o : Output) (d : List ℕ) {e : List ℕ} {r : Done} → Leaves o d e r → (r .number ≡ 0 → ⊥) → (printed o ≡ refusedText (r .number)) × (e ≡ zeros (length d))
 tells (refusal f p) d l z = (ap refusedText (sym (ap (λ (x : Done). x .number) (l .answer))), l .room ∙ sym (filled-none (length d)))
 tells (text t) d l z = absurd (z (ap (λ (x : Done). x .number) (l .answer)))
+
+-- ---- after the report call, into a room that was cleared
+
+module _ (s d z : List ℕ) {kind today : ℕ} {e : List ℕ} {r : Done} (k : isKind (kindDigit s) ≡ true) (t : dateOf (take 8 (drop 1 s)) ≡ Is today) (q : kind ≡ kindDigit s)
+    (clear : z ≡ zeros (length d)) (l : Leaves (reportOutput kind today (drop 9 s) (length z)) z e r) where
+  long : length z ≡ length d
+  long = rw clear (simp length-replicate)
+
+  says : printed (reportOutput kind today (drop 9 s) (length z)) ≡ deskText s (length d)
+  says = rw (q, long) (dated-text s (length d) k t)
+
+  pub reported-refused : {e′ : List ℕ} {n : ℕ} → (r .number ≡ 0 → ⊥) → Put (refusedText (r .number)) e e′ n → Put (deskText s (length d)) (zeros (length d)) e′ n
+  reported-refused h w =
+      let u = tells (reportOutput kind today (drop 9 s) (length z)) z l h in
+      same-text (sym (u .0) ∙ says) (rw (u .1, long) at w)
+
+  pub reported-shown : r .number ≡ 0 → Put (deskText s (length d)) (zeros (length d)) e (r .length)
+  reported-shown h =
+      let w = shows (reportOutput kind today (drop 9 s) (length z)) z (λ t p. report-fits kind today (drop 9 s) (length z) t p) l h in
+      rw long at (same-text says w)

@@ -5,3 +5,4 @@ pub mod Passes
 pub mod Ways
 pub mod Sheets
 pub mod Promise
+pub mod Examples

@@ -64,7 +64,7 @@ bodyOf rows (some vs) = Takes (length (encode rows vs))
 -- fifteen rows at most, each of a value of 65,534 bytes at most, a tag of two and a length of three
 abbrev pub Small : Body → Type 0
 Small Cut = Unit {0}
-Small (Takes n) = n ≤ 15 * 65540
+Small (Takes n) = n ≤ 15 * 65539
 
 -- ---- a value judged by what the table says of its tag: 16, then its rule
 

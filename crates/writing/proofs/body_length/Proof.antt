@@ -15,7 +15,7 @@ use Rattle.writing.proofs.body_length.Tie as tie
 
 abbrev Inv-loop : tie.InvT-loop
 Inv-loop kind s at₀ row₀ size₀ at row size =
-    (at ≤ length s) × (row ≤ 15) × (size ≤ row * 65540) × (bodyFrom kind s at row size ≡ bodyOf (table kind) (opened (table kind) s))
+    (at ≤ length s) × (row ≤ 15) × (size ≤ row * 65539) × (bodyFrom kind s at row size ≡ bodyOf (table kind) (opened (table kind) s))
 
 abbrev μ-loop : tie.MeasureT-loop
 μ-loop kind s at₀ row₀ size₀ at row size = length s - at
