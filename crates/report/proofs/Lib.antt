@@ -4,3 +4,4 @@ pub mod Opens
 pub mod Answers
 pub mod Same
 pub mod Converse
+pub mod Examples
