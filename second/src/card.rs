@@ -281,7 +281,13 @@ pub fn check(kind: u64, today: u64, container: &[u8]) -> (u64, u64) {
 
 /// Writes the container's value sheet into the room: number, place, length of the sheet.
 pub fn read(kind: u64, today: u64, container: &[u8], room: &mut [u8]) -> (u64, u64, u64) {
-    match try_read(kind, today, container, room) {
+    let outcome = try_read(kind, today, container, room);
+    settled(outcome, room)
+}
+
+/// Zeros behind what was written, or in the whole room after a refusal: number, place, length.
+fn settled(outcome: Result<usize, Refusal>, room: &mut [u8]) -> (u64, u64, u64) {
+    match outcome {
         Ok(length) => {
             room[length..].fill(0);
             (number::DONE, 0, length as u64)
@@ -324,16 +330,8 @@ fn try_read(kind: u64, today: u64, container: &[u8], room: &mut [u8]) -> Result<
 
 /// Writes the container that a value sheet describes: number, place, length of the container.
 pub fn write(kind: u64, today: u64, sheet: &[u8], room: &mut [u8]) -> (u64, u64, u64) {
-    match try_write(kind, today, sheet, room) {
-        Ok(length) => {
-            room[length..].fill(0);
-            (number::DONE, 0, length as u64)
-        }
-        Err((number, place)) => {
-            room.fill(0);
-            (number, place, 0)
-        }
-    }
+    let outcome = try_write(kind, today, sheet, room);
+    settled(outcome, room)
 }
 
 fn try_write(kind: u64, today: u64, sheet: &[u8], room: &mut [u8]) -> Result<usize, Refusal> {
