@@ -1,21 +1,25 @@
 -- What `report` answers: 1, 2, 3, 4, or the report; and the report of what was read. Assumes nothing.
 use Prim.Native.Nat.{ℕ, _≤_, _<_}
+use mathlib.Core.Logic.{inl, inr}
 use mathlib.Core.Path.{_≡_}
 use mathlib.Core.Bool.{true, false}
 use mathlib.Core.List.{List}
 use native.Mathlib.Omega.{arith}
+use lib.Dec.{ltb, leb}
 use lib.ListN.{length}
-use borrow.Author.Tests.{lt-ltb, le-ltb, lt-leb, le-leb}
+use borrow.Author.Tests.{lt-ltb, le-ltb, lt-leb, le-leb, ltb-false}
 use Rattle.laws.specs.Bytes.{Bytes}
+use Rattle.laws.proofs.Cases.{which}
 use Rattle.dates.specs.Date.{isDate}
 use Rattle.kinds.specs.Tables.{isKind}
-use Rattle.verdicts.specs.Output.{refusal, text}
+use Rattle.verdicts.specs.Output.{Output, refusal, text}
 use Rattle.verdicts.specs.declared.Fault.{Fault}
-use Rattle.verdicts.specs.declared.Fault.the-variants.{UnknownKind, NoDate, SmallRoom, LargeContainer}
+use Rattle.verdicts.specs.declared.Fault.the-variants.{UnknownKind, NoDate, SmallRoom, LargeContainer, LongReport}
 use Rattle.verdicts.specs.declared.Outcome.the-variants.{Broken}
+use Rattle.container.specs.Container.{largest}
 use Rattle.container.specs.Reading.{Parsed, values, fault, outer, parsed, outcomeOf, outcome}
 use Rattle.report.specs.Report.{reportText}
-use Rattle.report.specs.Calls.{reportOutput}
+use Rattle.report.specs.Calls.{fitting, reportOutput}
 use Rattle.report.proofs.Bound.{report-length}
 
 -- a fault that is judged is what was read
@@ -59,3 +63,31 @@ module _ (kind today : ℕ) (c : List ℕ) (room : ℕ) where
           pub report-0 : Bytes c → reportOutput kind today c room ≡ text (reportText kind today (length c) (parsed kind today c))
           unfolding reportOutput
           report-0 b = rw (k, d, le-ltb _ _ l, le-leb _ _ g, is-outer, le-ltb _ _ (report-length kind today c b g))
+
+  -- all that a call can answer: a refusal without a place, or a whole report in a room of at least 512 bytes
+  pub report-cases : (P : Output → Type 0) → ((f : Fault) → P (refusal f 0)) → ((t : List ℕ) → 512 ≤ room → length t ≤ 512 → P (text t)) → P (reportOutput kind today c room)
+  unfolding reportOutput
+  report-cases P refuse give =
+      elim (which (isKind kind)) [
+        | inl k ↦
+            elim (which (isDate today)) [
+              | inl d ↦
+                  elim (which (ltb room 512)) [
+                    | inl l ↦ rw (k, d, l) (refuse SmallRoom)
+                    | inr l ↦
+                        elim (which (leb (length c) largest)) [
+                          | inl g ↦ rw (k, d, l, g) (fits (reportText kind today (length c) (outer kind today c)) (ltb-false _ _ l))
+                          | inr g ↦ rw (k, d, l, g) (refuse LargeContainer)
+                        ]
+                  ]
+              | inr d ↦ rw (k, d) (refuse NoDate)
+            ]
+        | inr k ↦ rw k (refuse UnknownKind)
+      ]
+    where
+      fits : (t : List ℕ) → 512 ≤ room → P (fitting t)
+      fits t l =
+          elim (which (ltb 512 (length t))) [
+            | inl g ↦ rw g (refuse LongReport)
+            | inr g ↦ rw g (give t l (ltb-false _ _ g))
+          ]

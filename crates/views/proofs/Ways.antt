@@ -1,10 +1,11 @@
--- The ways out of `view`. Assumes nothing.
-use Prim.Native.Nat.{ℕ, _+_, _-_}
+-- The ways out of `locate`. Assumes nothing.
+use Prim.Native.Nat.{ℕ, _+_, _-_, _≤_}
 use mathlib.Core.Path.{_≡_, refl, sym, ap, _∙_}
 use mathlib.Core.Option.{Option, none, some}
 use mathlib.Core.List.{List, []}
 use native.Mathlib.Omega.{arith}
-use lib.ListN.{take, drop}
+use lib.ListN.{length, take, drop, length-drop}
+use lib.Seq.{length-take-le}
 use Rattle.laws.specs.Bytes.{Bytes}
 use Rattle.verdicts.specs.Verdicts.{numberOf}
 use Rattle.verdicts.specs.declared.Fault.{Fault}
@@ -16,18 +17,20 @@ use Rattle.container.specs.Reading.{Parsed, values, fault, parsed, outcomeOf, o
 use Rattle.container.specs.Places.{Part, start, partOf}
 use Rattle.container.specs.declared.Found.the-variants.{At, Absent}
 use Rattle.container.proofs.Promise.{conforms-parsed}
-use Rattle.views.specs.Lies.{Lies}
-use Rattle.views.specs.Views.{View, nothing, shown, viewOf, viewed, Answers}
+use Rattle.views.specs.Lies.{Lies, Within}
+use Rattle.views.specs.Views.{View, nothing, shown, viewOf, viewed, Locates}
 
--- a part that starts so many bytes after the container's start
-answered : {v : View} (p : ℕ × ℕ) {n q o : ℕ} {s : List ℕ} → v ≡ record { number = n; place = q; part = record { offset = o; bytes = s } } → Answers v p n q (p .0, o + p .1) s
-answered p {o = o} e =
+-- a part that lies so
+located : {v : View} (c : List ℕ) {n q from to : ℕ} {s : List ℕ} → v ≡ record { number = n; place = q; part = record { offset = from; bytes = s } }
+    → to ≡ from + length s → to ≤ length c → take (to - from) (drop from c) ≡ s → Locates v c (record { number = n; place = q; from = from; to = to })
+located c e t i b =
     record {
       number-is = ap (λ (v : View). v .number) (sym e);
       place-is = ap (λ (v : View). v .place) (sym e);
-      block-is = refl;
-      offset-is = rw (ap (λ (v : View). v .part .offset) e) (omega arith);
-      bytes-are = ap (λ (v : View). v .part .bytes) (sym e);
+      from-is = ap (λ (v : View). v .part .offset) (sym e);
+      to-is = t ∙ ap (λ (v : View). v .part .offset + length (v .part .bytes)) (sym e);
+      inside = i;
+      bytes-are = b ∙ ap (λ (v : View). v .part .bytes) (sym e);
     }
 
 module _ (kind today : ℕ) (c : List ℕ) (tag : ℕ) where
@@ -44,24 +47,27 @@ module _ (kind today : ℕ) (c : List ℕ) (tag : ℕ) where
   unfolding viewed
   by-values b vs h = rw (conforms-parsed kind today c b vs h)
 
-  module _ (p : ℕ × ℕ) where
-    -- the check refuses
-    pub out-broken : {f : Fault} {n q : ℕ} → outcome kind today c ≡ Broken f q → n ≡ numberOf f → Answers (viewed kind today c tag) p n q (p .0, 0 + p .1) []
-    out-broken {q = q} e i = answered p (broken e ∙ ap (λ (n : ℕ). record { number = n; place = q; part = nothing }) (sym i))
+  -- the check refuses
+  pub out-broken : {f : Fault} {n q : ℕ} → outcome kind today c ≡ Broken f q → n ≡ numberOf f
+      → Locates (viewed kind today c tag) c (record { number = n; place = q; from = 0; to = 0 })
+  out-broken {q = q} e i = located c (broken e ∙ ap (λ (n : ℕ). record { number = n; place = q; part = nothing }) (sym i)) refl (omega arith) refl
 
-    module _ (b : Bytes c) (vs : Values) (h : Conforms kind today vs c) where
-      -- "View: check, then 6"
-      pub out-absent : {n : ℕ} → Lies (partOf (table kind) vs (start kind vs) tag) c Absent → n ≡ numberOf NoElement → Answers (viewed kind today c tag) p n 0 (p .0, 0 + p .1) []
-      out-absent {n} l i = answered p (by-values b vs h ∙ go (partOf (table kind) vs (start kind vs) tag) l)
-        where
-          go : (o : Option Part) → Lies o c Absent → shown o ≡ record { number = n; place = 0; part = nothing }
-          go none l = ap (λ (n : ℕ). record { number = n; place = 0; part = nothing }) (sym i)
-          go (some p) l = absurd l
+  module _ (b : Bytes c) (vs : Values) (h : Conforms kind today vs c) where
+    -- "View: check, then 6"
+    pub out-absent : {n : ℕ} → Lies (partOf (table kind) vs (start kind vs) tag) c Absent → n ≡ numberOf NoElement
+        → Locates (viewed kind today c tag) c (record { number = n; place = 0; from = 0; to = 0 })
+    out-absent {n} l i = located c (by-values b vs h ∙ go (partOf (table kind) vs (start kind vs) tag) l) refl (omega arith) refl
+      where
+        go : (o : Option Part) → Lies o c Absent → shown o ≡ record { number = n; place = 0; part = nothing }
+        go none l = ap (λ (n : ℕ). record { number = n; place = 0; part = nothing }) (sym i)
+        go (some p) l = absurd l
 
-      pub out-there : (from to : ℕ) → Lies (partOf (table kind) vs (start kind vs) tag) c (At from to)
-          → Answers (viewed kind today c tag) p 0 0 (p .0, from + p .1) (take (to - from) (drop from c))
-      out-there from to l = answered p (by-values b vs h ∙ go (partOf (table kind) vs (start kind vs) tag) l)
-        where
-          go : (o : Option Part) → Lies o c (At from to) → shown o ≡ record { number = 0; place = 0; part = record { offset = from; bytes = take (to - from) (drop from c) } }
-          go none l = absurd l
-          go (some p) l = sym (λ i. record { number = 0; place = 0; part = record { offset = l .0 i; bytes = l .1 i } })
+    pub out-there : (from to : ℕ) → Within (At from to) (length c) → Lies (partOf (table kind) vs (start kind vs) tag) c (At from to)
+        → Locates (viewed kind today c tag) c (record { number = 0; place = 0; from = from; to = to })
+    out-there from to w l =
+        let n = length-take-le (to - from) (drop from c) (omega (arith, w, length-drop from c)) in
+        located c (by-values b vs h ∙ go (partOf (table kind) vs (start kind vs) tag) l) (omega (arith, w, n)) (w .1) refl
+      where
+        go : (o : Option Part) → Lies o c (At from to) → shown o ≡ record { number = 0; place = 0; part = record { offset = from; bytes = take (to - from) (drop from c) } }
+        go none l = absurd l
+        go (some p) l = sym (λ i. record { number = 0; place = 0; part = record { offset = l .0 i; bytes = l .1 i } })

@@ -1,14 +1,16 @@
 -- 01, "Sheets, views and the report": "A view gives the element's value as a part of the caller's container; its place and length are fixed."
 -- "View: check, then 6." "A refused view is an empty part": at the container's start.
-use Prim.Native.Nat.{ℕ, _+_}
+use Prim.Native.Nat.{ℕ, _+_, _-_, _≤_}
 use mathlib.Core.Path.{_≡_}
 use mathlib.Core.Option.{Option, none, some}
 use mathlib.Core.List.{List, []}
+use lib.ListN.{length, take, drop}
 use Rattle.verdicts.specs.Verdicts.{numberOf}
 use Rattle.verdicts.specs.declared.Fault.the-variants.{NoElement}
 use Rattle.kinds.specs.Tables.{table}
 use Rattle.container.specs.Reading.{Parsed, values, fault, parsed}
 use Rattle.container.specs.Places.{Part, start, partOf}
+use Rattle.views.specs.declared.Located.{Located}
 
 -- the number and its place, and the part: its offset in the container and its bytes
 pub record View : Type 0 where
@@ -29,6 +31,15 @@ viewOf kind (fault f p) tag = record { number = numberOf f; place = p; part = no
 
 unfoldable pub viewed : ℕ → ℕ → List ℕ → ℕ → View
 viewed kind today c tag = viewOf kind (parsed kind today c) tag
+
+-- the same in numbers, of the bytes c: from where to where the part lies. The last two follow from the others; they stand here so that a caller finds them
+pub record Locates (v : View) (c : List ℕ) (r : Located) : Type 0 where
+  pub number-is : r .number ≡ v .number
+  pub place-is : r .place ≡ v .place
+  pub from-is : r .from ≡ v .part .offset
+  pub to-is : r .to ≡ v .part .offset + length (v .part .bytes)
+  pub inside : r .to ≤ length c
+  pub bytes-are : take (r .to - r .from) (drop (r .from) c) ≡ v .part .bytes
 
 -- the whole answer of a call: the two numbers that it stores, and the part that it hands out, a block, an offset in it and bytes, of a container that
 -- stands at a block and an offset: nothing of it is open

@@ -5,7 +5,7 @@ ghost use Rattle.kinds.specs.Tables.{table};
 ghost use Rattle.container.specs.Container.{Values, Conforms};
 ghost use Rattle.container.specs.Places.{start, partOf};
 ghost use Rattle.views.specs.Lies.{Lies, Within};
-ghost use Rattle.views.specs.Views.{viewed, Answers};
+ghost use Rattle.views.specs.Views.{viewed, Locates, Answers};
 use container::Found;
 use kinds::Place;
 use verdicts::Outcome;
@@ -30,8 +30,44 @@ pub fn sought(kind: u64, tag: u64, c: &[u8]) -> Found
     Found::Absent
 }
 
-// "View: check, then 6." The check's number and place and an empty part; 6 and an empty part where the element is absent
-// or the tag is not of the kind; or 0 and the value, where it lies. An empty part stands at the container's start.
+// What a view comes to in numbers: the answer and its place, and where the part lies in the container.
+pub struct Located {
+    pub number: u64,
+    pub place: u64,
+    pub from: usize,
+    pub to: usize,
+}
+
+// "View: check, then 6." The check's number and place; 6 where the element is absent or the tag is not of the kind; or 0
+// and where the value lies. A refused part is empty and stands at the container's start.
+pub fn locate(kind: u64, today: u64, container: &[u8], tag: u64) -> Located
+    ensures { λ r. ⌜ Locates (viewed kind today (now (container .entry)) tag) (now (container .entry)) r ⌝ }
+{
+    match container::judge(kind, today, container) {
+        Outcome::Broken(f, at) => Located {
+            number: verdicts::number_of(f),
+            place: at as u64,
+            from: 0,
+            to: 0,
+        },
+        Outcome::Fine => match sought(kind, tag, container) {
+            Found::Absent => Located {
+                number: 6,
+                place: 0,
+                from: 0,
+                to: 0,
+            },
+            Found::At(start, end) => Located {
+                number: 0,
+                place: 0,
+                from: start,
+                to: end,
+            },
+        },
+    }
+}
+
+// The same, with the part itself.
 pub fn view<'a>(
     kind: u64,
     today: u64,
@@ -42,24 +78,10 @@ pub fn view<'a>(
 ) -> &'a [u8]
     ensures { λ r. ⌜ Answers (viewed kind today (now (container .entry)) tag) (container .entry .ptr) (now (number .exit)) (now (place .exit)) (r .ptr) (now r) ⌝ }
 {
-    match container::judge(kind, today, container) {
-        Outcome::Broken(f, at) => {
-            *number = verdicts::number_of(f);
-            *place = at as u64;
-            &container[0..0]
-        }
-        Outcome::Fine => {
-            *place = 0;
-            match sought(kind, tag, container) {
-                Found::Absent => {
-                    *number = 6;
-                    &container[0..0]
-                }
-                Found::At(start, end) => {
-                    *number = 0;
-                    &container[start..end]
-                }
-            }
-        }
-    }
+    let part = locate(kind, today, container, tag);
+    *number = part.number;
+    *place = part.place;
+    let from = part.from;
+    let to = part.to;
+    &container[from..to]
 }

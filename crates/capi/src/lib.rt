@@ -1,0 +1,125 @@
+// The seven calls for C: include/prosianek.h declares them. A slice is a pointer and a length there, a lent number a pointer;
+// each function answers 01's number.
+ghost use Rattle.prosianek.specs.Calls.{Checks, Reads, Writes, Reports, Decodes, Encodes};
+ghost use Rattle.views.specs.Views.{viewed};
+ghost use Rattle.capi.specs.Calls.{numbersOf, Shows};
+use fascn::Numbers;
+
+#[no_mangle]
+pub extern "C" fn prosianek_check(kind: u64, today: u64, container: &[u8], place: &mut u64) -> u64
+    ensures { λ r. ⌜ Checks kind today (now (container .entry)) (record { number = r; place = now (place .exit) }) ⌝ }
+{
+    let v = prosianek::check(kind, today, container);
+    *place = v.place;
+    v.number
+}
+
+#[no_mangle]
+pub extern "C" fn prosianek_read(
+    kind: u64,
+    today: u64,
+    container: &[u8],
+    sheet: &mut [u8],
+    place: &mut u64,
+    length: &mut u64,
+) -> u64
+    ensures { λ r. ⌜ Reads kind today (now (container .entry)) (now (sheet .entry)) (now (sheet .exit)) (record { number = r; place = now (place .exit); length = now (length .exit) }) ⌝ }
+{
+    let done = prosianek::read(kind, today, container, sheet);
+    *place = done.place;
+    *length = done.length;
+    done.number
+}
+
+#[no_mangle]
+pub extern "C" fn prosianek_write(
+    kind: u64,
+    today: u64,
+    sheet: &[u8],
+    container: &mut [u8],
+    place: &mut u64,
+    length: &mut u64,
+) -> u64
+    ensures { λ r. ⌜ Writes kind today (now (sheet .entry)) (now (container .entry)) (now (container .exit)) (record { number = r; place = now (place .exit); length = now (length .exit) }) ⌝ }
+{
+    let done = prosianek::write(kind, today, sheet, container);
+    *place = done.place;
+    *length = done.length;
+    done.number
+}
+
+// The part is told by its offset in the container: no exported function hands out a reference.
+#[no_mangle]
+pub extern "C" fn prosianek_view(
+    kind: u64,
+    today: u64,
+    container: &[u8],
+    tag: u64,
+    place: &mut u64,
+    offset: &mut u64,
+    length: &mut u64,
+) -> u64
+    ensures { λ r. ⌜ Shows (viewed kind today (now (container .entry)) tag) r (now (place .exit)) (now (offset .exit)) (now (length .exit)) ⌝ }
+{
+    let part = views::locate(kind, today, container, tag);
+    *place = part.place;
+    *offset = part.from as u64;
+    *length = (part.to - part.from) as u64;
+    part.number
+}
+
+// No refusal of a report has another place than 0.
+#[no_mangle]
+pub extern "C" fn prosianek_report(
+    kind: u64,
+    today: u64,
+    container: &[u8],
+    room: &mut [u8],
+    length: &mut u64,
+) -> u64
+    ensures { λ r. ⌜ Reports kind today (now (container .entry)) (now (room .entry)) (now (room .exit)) (record { number = r; place = 0; length = now (length .exit) }) ⌝ }
+{
+    let done = prosianek::report(kind, today, container, room);
+    *length = done.length;
+    done.number
+}
+
+#[no_mangle]
+pub extern "C" fn prosianek_fascn_decode(bytes: &[u8], numbers: &mut [u64; 9]) -> u64
+    ensures { λ r. ⌜ Decodes (now (bytes .entry)) (record { number = r; numbers = numbersOf (now (numbers .exit)) }) ⌝ }
+{
+    let d = prosianek::decode(bytes);
+    let n = d.numbers;
+    *numbers = [
+        n.agency,
+        n.system,
+        n.credential,
+        n.series,
+        n.issue,
+        n.person,
+        n.category,
+        n.organisation,
+        n.association,
+    ];
+    d.number
+}
+
+#[no_mangle]
+pub extern "C" fn prosianek_fascn_encode(numbers: &[u64; 9], room: &mut [u8]) -> u64
+    ensures { λ r. ⌜ Encodes (numbersOf (now (numbers .entry))) (now (room .entry)) (now (room .exit)) r ⌝ }
+{
+    prosianek::encode(
+        Numbers {
+            agency: numbers[0],
+            system: numbers[1],
+            credential: numbers[2],
+            series: numbers[3],
+            issue: numbers[4],
+            person: numbers[5],
+            category: numbers[6],
+            organisation: numbers[7],
+            association: numbers[8],
+        },
+        room,
+    )
+}

@@ -1,0 +1,47 @@
+-- The seven calls of the door. Each record is the whole contract of one call: what it answers and what it leaves, on every input. Nothing is asked of
+-- a caller, and nothing of the answer is left open (`promises`, `Settled`).
+use Prim.Native.Nat.{ℕ}
+use mathlib.Core.Path.{_≡_}
+use mathlib.Core.List.{List}
+use lib.ListN.{length}
+use Rattle.fascn.specs.Reading.{decoded}
+use Rattle.fascn.specs.Calls.{Encoded}
+use Rattle.fascn.specs.declared.Numbers.{Numbers}
+use Rattle.fascn.specs.declared.Decoded.{Decoded}
+use Rattle.verdicts.specs.Output.{Leaves}
+use Rattle.verdicts.specs.declared.Verdict.{Verdict}
+use Rattle.verdicts.specs.declared.Done.{Done}
+use Rattle.container.specs.Reading.{verdict}
+use Rattle.sheet.specs.Calls.{readOutput}
+use Rattle.writing.specs.Writing.{writeOutput}
+use Rattle.views.specs.Views.{viewed, Answers}
+use Rattle.report.specs.Calls.{reportOutput}
+
+-- "Check: 1, 2, 4, then outer 10, 11, 12 (place 0), then each element": the verdict r of the bytes c
+pub record Checks (kind today : ℕ) (c : List ℕ) (r : Verdict) : Type 0 where
+  pub answer : r ≡ verdict kind today c
+
+-- "Read: check, then 3": the sheet of the container c goes into a room that was `before` and is left as `after`
+pub record Reads (kind today : ℕ) (c before after : List ℕ) (r : Done) : Type 0 where
+  pub leaves : Leaves (readOutput kind today c (length before)) before after r
+
+-- "Write: 1, 2, 5, then row by row 15, 16 and the value's rules, with the place of the row's count, then 4, 3": the container of the sheet s
+pub record Writes (kind today : ℕ) (s before after : List ℕ) (r : Done) : Type 0 where
+  pub leaves : Leaves (writeOutput kind today s (length before)) before after r
+
+-- "View: check, then 6": the number and the place that are stored, and the part that is handed out, which stands at a block and an offset and has these
+-- bytes; the container c stands at the block and the offset `at`
+pub record Views (kind today : ℕ) (c : List ℕ) (tag : ℕ) (at : ℕ × ℕ) (number place : ℕ) (part : ℕ × ℕ) (bytes : List ℕ) : Type 0 where
+  pub shows : Answers (viewed kind today c tag) at number place part bytes
+
+-- "Report: 1, 2, 3, 4, then 8; broken rules are reported"
+pub record Reports (kind today : ℕ) (c before after : List ℕ) (r : Done) : Type 0 where
+  pub leaves : Leaves (reportOutput kind today c (length before)) before after r
+
+-- "Decoding alone: any string but 25 conforming bytes is 17, with all nine numbers 0."
+pub record Decodes (s : List ℕ) (r : Decoded) : Type 0 where
+  pub answer : r ≡ decoded s
+
+-- "Encoding alone: 7, then 3 for a room under 25."
+pub record Encodes (n : Numbers) (before after : List ℕ) (number : ℕ) : Type 0 where
+  pub leaves : Encoded n before after number

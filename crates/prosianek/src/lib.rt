@@ -1,0 +1,65 @@
+// The door: the seven calls, and nothing else. Each contract is one record of specs/Calls.antt.
+//
+// kind is 1 CCC, 2 CHUID, 3 DISCOVERY, 4 PRINTED, 5 SECURITY, 6 FINGERS, 7 FACE; today is a date as an eight-digit number.
+// Every input gets an answer. A call clears the room that it is lent before it writes there.
+ghost use Rattle.prosianek.specs.Calls.{Checks, Reads, Writes, Views, Reports, Decodes, Encodes};
+use fascn::Decoded;
+use fascn::Numbers;
+use verdicts::Done;
+use verdicts::Verdict;
+
+// Whether a container conforms; or the first broken rule and its place.
+pub fn check(kind: u64, today: u64, container: &[u8]) -> Verdict
+    ensures { λ r. ⌜ Checks kind today (now (container .entry)) r ⌝ }
+{
+    container::check(kind, today, container)
+}
+
+// The value sheet of a container.
+pub fn read(kind: u64, today: u64, container: &[u8], sheet: &mut [u8]) -> Done
+    ensures { λ r. ⌜ Reads kind today (now (container .entry)) (now (sheet .entry)) (now (sheet .exit)) r ⌝ }
+{
+    sheet::read(kind, today, container, sheet)
+}
+
+// The container of a value sheet.
+pub fn write(kind: u64, today: u64, sheet: &[u8], container: &mut [u8]) -> Done
+    ensures { λ r. ⌜ Writes kind today (now (sheet .entry)) (now (container .entry)) (now (container .exit)) r ⌝ }
+{
+    writing::write(kind, today, sheet, container)
+}
+
+// The value of the element with a tag, as a part of the container.
+pub fn view<'a>(
+    kind: u64,
+    today: u64,
+    container: &'a [u8],
+    tag: u64,
+    number: &mut u64,
+    place: &mut u64,
+) -> &'a [u8]
+    ensures { λ r. ⌜ Views kind today (now (container .entry)) tag (container .entry .ptr) (now (number .exit)) (now (place .exit)) (r .ptr) (now r) ⌝ }
+{
+    views::view(kind, today, container, tag, number, place)
+}
+
+// The desk report of a container.
+pub fn report(kind: u64, today: u64, container: &[u8], room: &mut [u8]) -> Done
+    ensures { λ r. ⌜ Reports kind today (now (container .entry)) (now (room .entry)) (now (room .exit)) r ⌝ }
+{
+    report::report(kind, today, container, room)
+}
+
+// The nine numbers of a FASC-N.
+pub fn decode(bytes: &[u8]) -> Decoded
+    ensures { λ r. ⌜ Decodes (now (bytes .entry)) r ⌝ }
+{
+    fascn::decode(bytes)
+}
+
+// The FASC-N of nine numbers.
+pub fn encode(numbers: Numbers, room: &mut [u8]) -> u64
+    ensures { λ r. ⌜ Encodes numbers (now (room .entry)) (now (room .exit)) r ⌝ }
+{
+    fascn::encode(numbers, room)
+}
