@@ -1,8 +1,9 @@
--- The first broken rule: the elements are judged one by one in 01's order, and those before the named place keep their rules. Assumes nothing.
+-- The first broken rule: the elements are judged one by one in 01's order, those before the named place keep their rules, and the one there is at
+-- fault. Assumes nothing.
 use Prim.Native.Nat.{ℕ, _+_}
 use mathlib.Core.Logic.{inl, inr}
 use mathlib.Core.Path.{_≡_, refl, sym, ap, _∙_}
-use mathlib.Core.Bool.{Bool, true, false, cond}
+use mathlib.Core.Bool.{Bool, true, false, cond, true≢false}
 use mathlib.Core.Option.{Option, none, some}
 use mathlib.Core.List.{List, [], _∷_, _++_}
 use native.Mathlib.Omega.{arith}
@@ -21,7 +22,7 @@ use Rattle.verdicts.specs.declared.Outcome.{Outcome}
 use Rattle.verdicts.specs.declared.Outcome.the-variants.{Broken}
 use Rattle.container.specs.Container.{Values, tagBytes, encode, Allowed}
 use Rattle.container.specs.Reading.{Parsed, values, fault, prepend, Element, whole, broken, element, long, has, tagHere, follow, parse, outcomeOf}
-use Rattle.container.specs.InOrder.{Place, nowhere, found, beyond, locate, onward, placed, inOrder}
+use Rattle.container.specs.InOrder.{Place, nowhere, found, beyond, locate, onward, placed, inOrder, First}
 use Rattle.container.proofs.Rows.{kept, gone}
 use Rattle.container.proofs.Tags.{tag-is}
 use Rattle.container.proofs.One.{element-is, good-fits}
@@ -76,24 +77,36 @@ module _ (today : ℕ) (all : Table) (at b : ℕ) (s : List ℕ) where
         | inr h ↦ rw h (gone today all at b s rest (k h) ∙ rw h)
       ]
 
--- ---- what stands before the named place
+-- ---- the first broken rule
 
--- some of the rows, with values that are allowed, are written as the bytes before the place
-pub record Before (today : ℕ) (rest : Table) (at : ℕ) (s : List ℕ) (place : ℕ) : Type 0 where
-  pub rows : Table
-  pub later : Table
-  pub vs : Values
-  pub split : rest ≡ rows ++ later
-  pub allowed : Allowed today rows vs
-  pub size : ℕ
-  pub place-is : place ≡ at + size
-  pub written : take size s ≡ encode rows vs
+-- the rows to come are rows of the table
+abbrev Part : Table → Table → Type 0
+Part all rest = (t : ℕ) → has t all ≡ false → has t rest ≡ false
 
-here : (today : ℕ) (rest : Table) (at : ℕ) (s : List ℕ) → Before today rest at s at
-here today rest at s = record { rows = []; later = rest; vs = []; split = refl; allowed = tt; size = 0; place-is = omega arith; written = refl }
+next-part : (all : Table) (r : Entry) (rs : Table) → Part all (r ∷ rs) → Part all rs
+next-part all r rs k u h = elim (which (eqb u (r .tag))) [
+  | inl q ↦ absurd (true≢false (rw q at (k u h)))
+  | inr q ↦ rw q at (k u h)
+]
 
-skip : (today : ℕ) (r : Entry) (rs : Table) (at : ℕ) (s : List ℕ) (p : ℕ) → r .optional ≡ true → Before today rs at s p → Before today (r ∷ rs) at s p
-skip today r rs at s p o b =
+-- the fault of what stands at once
+at-once : (today : ℕ) (all rest : Table) (at b : ℕ) (s : List ℕ) (f : Fault) → Part all rest → parse today all rest at (b ∷ s) ≡ fault f at
+    → First today all rest at (b ∷ s) f at
+at-once today all rest at b s f k e =
+    record {
+      rows = [];
+      later = rest;
+      vs = [];
+      split = refl;
+      allowed = tt;
+      size = 0;
+      place-is = omega arith;
+      written = refl;
+      wrong = sym (in-order today all at b s rest (k (tagHere all b s))) ∙ ap outcomeOf e;
+    }
+
+skip : (today : ℕ) (all : Table) (r : Entry) (rs : Table) (at : ℕ) (s : List ℕ) (f : Fault) (p : ℕ) → r .optional ≡ true → First today all rs at s f p → First today all (r ∷ rs) at s f p
+skip today all r rs at s f p o b =
     record {
       rows = r ∷ b .rows;
       later = b .later;
@@ -103,6 +116,7 @@ skip today r rs at s p o b =
       size = b .size;
       place-is = b .place-is;
       written = b .written;
+      wrong = b .wrong;
     }
 
 fault-of : (o : Option (List ℕ)) (x : Parsed) {f : Fault} {p : ℕ} → prepend o x ≡ fault f p → x ≡ fault f p
@@ -112,11 +126,14 @@ fault-of o (fault g q) e = e
 pub place-of : {f g : Fault} {p q : ℕ} → fault f p ≡ fault g q → q ≡ p
 place-of e = cc
 
+pub fault-is : {f g : Fault} {p q : ℕ} → fault f p ≡ fault g q → g ≡ f
+fault-is e = cc
+
 module _ (today : ℕ) (all : Table) where
   after-element : (r : Entry) (rs : Table) (at x : ℕ) (s : List ℕ) → Bytes (x ∷ s) → tagHere all x s ≡ r .tag → (v : List ℕ) (n p : ℕ)
       → element (r .lengths) (r .rule) today (drop (long (r .tag)) (x ∷ s)) ≡ whole v n
-      → Before today rs (at + (long (r .tag) + n)) (drop (long (r .tag) + n) (x ∷ s)) p → Before today (r ∷ rs) at (x ∷ s) p
-  after-element r rs at x s b q v n p e w =
+      → (f : Fault) → First today all rs (at + (long (r .tag) + n)) (drop (long (r .tag) + n) (x ∷ s)) f p → First today all (r ∷ rs) at (x ∷ s) f p
+  after-element r rs at x s b q v n p e f w =
       let body = drop (long (r .tag)) (x ∷ s) in
       let bb : Bytes body = below-drop 256 (long (r .tag)) (x ∷ s) b in
       let g = element-is (r .lengths) (r .rule) today body bb v n e in
@@ -125,6 +142,7 @@ module _ (today : ℕ) (all : Table) where
       let y : List ℕ = drop n body in
       let z : drop (long (r .tag) + n) (x ∷ s) ≡ y = sym (drop-drop n (long (r .tag)) (x ∷ s)) in
       let m = w .size in
+      let a : long (r .tag) + n + m ≡ long (r .tag) + (n + m) = omega arith in
       let h : take m y ≡ encode (w .rows) (w .vs) = rw z at (w .written) in
       let k : take (length v + m) (v ++ y) ≡ v ++ encode (w .rows) (w .vs) = take-append-add v y m ∙ rw h in
       let l : take (length (lengthBytes (length v)) + (length v + m)) (lengthBytes (length v) ++ (v ++ y)) ≡ lengthBytes (length v) ++ (v ++ encode (w .rows) (w .vs)) =
@@ -140,6 +158,7 @@ module _ (today : ℕ) (all : Table) where
         size = long (r .tag) + (n + m);
         place-is = omega (arith, w .place-is);
         written = ap (take (long (r .tag) + (n + m))) t ∙ take-append-add (tagBytes (r .tag)) body (n + m) ∙ rw j;
+        wrong = rw (drop-drop m (long (r .tag) + n) (x ∷ s), a) at (w .wrong);
       }
 
   follow-fault : (at : ℕ) (x : Element) (k : ℕ → Parsed) {f : Fault} {p : ℕ} → follow at x k ≡ fault f p
@@ -147,24 +166,36 @@ module _ (today : ℕ) (all : Table) where
   follow-fault at (whole v n) k e here on = on v n refl (fault-of (some v) (k n) e)
   follow-fault at (broken g) k e here on = here (place-of e)
 
-  -- what stands before the place of the first broken rule keeps its rules
-  pub before : (rest : Table) (at : ℕ) (s : List ℕ) → Bytes s → (f : Fault) (p : ℕ) → parse today all rest at s ≡ fault f p → Before today rest at s p
-  before [] at [] b f p e = let z : _≡_ {A = ℕ} 0 1 = cc in absurd (omega arith)
-  before [] at (x ∷ s) b f p e = rw (place-of e) (here today [] at (x ∷ s))
-  before (r ∷ rs) at [] b f p e =
+  -- the fault that is read is the first one
+  pub first : (rest : Table) (at : ℕ) (s : List ℕ) → Bytes s → Part all rest → (f : Fault) (p : ℕ) → parse today all rest at s ≡ fault f p → First today all rest at s f p
+  first [] at [] b k f p e = let z : _≡_ {A = ℕ} 0 1 = cc in absurd (omega arith)
+  first [] at (x ∷ s) b k f p e = rw (place-of e) (at-once today all [] at x s f k (rw (place-of e) at e))
+  first (r ∷ rs) at [] b k f p e =
       elim (which (r .optional)) [
-        | inl o ↦ skip today r rs at [] p o (before rs at [] b f p (fault-of none (parse today all rs at []) (rw o at e)))
-        | inr o ↦ rw (place-of (rw o at e)) (here today (r ∷ rs) at [])
+        | inl o ↦ skip today all r rs at [] f p o (first rs at [] b (next-part all r rs k) f p (fault-of none (parse today all rs at []) (rw o at e)))
+        | inr o ↦
+            let q : fault MissingRow at ≡ fault f p = rw o at e in
+            record {
+              rows = [];
+              later = r ∷ rs;
+              vs = [];
+              split = refl;
+              allowed = tt;
+              size = 0;
+              place-is = place-of q ∙ omega arith;
+              written = refl;
+              wrong = (o, fault-is q);
+            }
       ]
-  before (r ∷ rs) at (x ∷ s) b f p e =
+  first (r ∷ rs) at (x ∷ s) b k f p e =
       elim (which (eqb (tagHere all x s) (r .tag))) [
         | inl q ↦
             follow-fault at (element (r .lengths) (r .rule) today (drop (long (r .tag)) (x ∷ s))) (λ n. parse today all rs (at + (long (r .tag) + n)) (drop (long (r .tag) + n) (x ∷ s))) (rw q at e)
-            (λ z. rw z (here today (r ∷ rs) at (x ∷ s)))
-            (λ v n w k. after-element r rs at x s b (eqb-true _ _ q) v n p w (before rs (at + (long (r .tag) + n)) (drop (long (r .tag) + n) (x ∷ s)) (below-drop 256 (long (r .tag) + n) (x ∷ s) b) f p k))
+            (λ z. rw z (at-once today all (r ∷ rs) at x s f k (rw z at e)))
+            (λ v n w m. after-element r rs at x s b (eqb-true _ _ q) v n p w f (first rs (at + (long (r .tag) + n)) (drop (long (r .tag) + n) (x ∷ s)) (below-drop 256 (long (r .tag) + n) (x ∷ s) b) (next-part all r rs k) f p m))
         | inr q ↦
             elim (which (r .optional)) [
-              | inl o ↦ skip today r rs at (x ∷ s) p o (before rs at (x ∷ s) b f p (fault-of none (parse today all rs at (x ∷ s)) (rw (q, o) at e)))
-              | inr o ↦ rw (place-of (rw (q, o) at e)) (here today (r ∷ rs) at (x ∷ s))
+              | inl o ↦ skip today all r rs at (x ∷ s) f p o (first rs at (x ∷ s) b (next-part all r rs k) f p (fault-of none (parse today all rs at (x ∷ s)) (rw (q, o) at e)))
+              | inr o ↦ let z = place-of (rw (q, o) at e) in rw z (at-once today all (r ∷ rs) at x s f k (rw z at e))
             ]
       ]

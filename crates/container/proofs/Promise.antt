@@ -1,22 +1,22 @@
--- Demand 2, first half: under a date a container of a kind conforms exactly when some allowed values are written as its bytes, and these are unique.
--- Assumes nothing.
-use Prim.Native.Nat.{ℕ, _+_, _<_}
-use mathlib.Core.Logic.{_⊎_, inl, inr, _↔_}
+-- Demand 2, first half: under a date a container of a kind conforms exactly when some allowed values are written as its bytes, and these are unique;
+-- otherwise the first broken rule and its place are named. Assumes nothing.
+use Prim.Native.Nat.{ℕ, _+_, _<_, _≤_}
+use mathlib.Core.Logic.{inl, inr, _↔_}
 use mathlib.Core.Path.{_≡_, refl, sym, ap, _∙_}
-use mathlib.Core.Bool.{true}
+use mathlib.Core.Bool.{true, true≢false}
 use mathlib.Core.Option.{Option, none, some}
 use mathlib.Core.List.{List, [], _∷_, _++_}
 use native.Mathlib.Omega.{arith}
 use lib.ListN.{length, drop, length-append, length-drop, take-append-drop}
 use lib.Seq.{drop-append-seam, drop-drop}
 use lib.Dec.{leb, eqb}
-use borrow.Author.Tests.{le-leb, leb-true, eq-eqb, eqb-true}
+use borrow.Author.Tests.{le-leb, leb-true, leb-false, eq-eqb, eqb-true}
 use Rattle.laws.specs.Bytes.{Bytes}
 use Rattle.laws.proofs.Bases.{below-drop}
 use Rattle.laws.proofs.Cases.{which, and-true, and-is}
 use Rattle.lengths.specs.Length.{lengthBytes, readLength, Spelt}
 use Rattle.lengths.proofs.Spellings.{exact as spelling-exact, reads-back}
-use Rattle.dates.specs.Date.{isDate}
+use Rattle.dates.specs.Date.{IsDate, isDate}
 use Rattle.dates.proofs.Dates.{date-exact}
 use Rattle.kinds.specs.Tables.{Table, table, IsKind, isKind}
 use Rattle.verdicts.specs.Verdicts.{verdictOf}
@@ -27,8 +27,10 @@ use Rattle.container.specs.Container.{Values, encode, outerTag, containe
 use Rattle.container.specs.Reading.{Parsed, values, fault, inner, outer, parsed, outcomeOf, outcome, verdict}
 use Rattle.container.proofs.Tags.{distinct, tags}
 use Rattle.container.proofs.Exact.{no-values, sound, complete}
-use Rattle.container.proofs.InOrder.{Before, place-of, before}
+use Rattle.container.specs.InOrder.{Named, no-kind, no-date, too-large, outer-tag, outer-length, outer-end, in-element}
+use Rattle.container.proofs.InOrder.{place-of, fault-is, first}
 use Rattle.verdicts.specs.declared.Fault.{Fault}
+use Rattle.verdicts.specs.declared.Fault.the-variants.{UnknownKind, NoDate, LargeContainer, OuterTag, Overrun}
 
 pub kind-exact : (kind : ℕ) → (isKind kind ≡ true) ↔ IsKind kind
 kind-exact kind = (
@@ -123,10 +125,33 @@ pub exactly-when : (kind today : ℕ) (c : List ℕ) → Bytes c → (verdict ki
 exactly-when kind today c b =
     (λ e. fine-exact kind today c b .0 (zero-fine (outcome kind today c) .0 e), λ h. zero-fine (outcome kind today c) .1 (fine-exact kind today c b .1 h))
 
--- ---- the first broken rule: a fault with a place stands in an element, and the elements before it keep their rules
+-- ---- the first broken rule is named
 
-pub named : (kind today : ℕ) (c : List ℕ) → Bytes c → (f : Fault) (p : ℕ) → parsed kind today c ≡ fault f p
-    → (p ≡ 0) ⊎ ((n : Spelt) × (readLength (drop 1 c) ≡ some n) × Before today (table kind) (1 + n .width) (drop (1 + n .width) c) p)
+module _ (kind today : ℕ) (f : Fault) (p : ℕ) (ki : IsKind kind) (di : IsDate today) where
+  in-inner : (o : Option Spelt) (t : ℕ) (s : List ℕ) → length (t ∷ s) ≤ largest → t ≡ outerTag kind → readLength s ≡ o → Bytes s → inner today (table kind) o s ≡ fault f p
+      → Named kind today (t ∷ s) f p
+  in-inner none t s l h r b e = outer-length ki di l (ap (λ (x : ℕ). x ∷ []) h) r (fault-is e) (place-of e)
+  in-inner (some n) t s l h r b e =
+      elim (which (eqb (length s) (n .width + n .number))) [
+        | inl q ↦
+            in-element ki di l (ap (λ (x : ℕ). x ∷ []) h) n r (omega (arith, eqb-true (length s) (n .width + n .number) q))
+            (rw (← drop-drop (n .width) 1 (t ∷ s)) (first today (table kind) (table kind) (1 + n .width) (drop (n .width) s) (below-drop 256 (n .width) s b) (λ t h. h) f p (rw q at e)))
+        | inr q ↦
+            let z : fault Overrun 0 ≡ fault f p = rw q at e in
+            outer-end ki di l (ap (λ (x : ℕ). x ∷ []) h) n r (λ m. true≢false (sym (eq-eqb (length s) (n .width + n .number) (omega (arith, m))) ∙ q)) (fault-is z) (place-of z)
+      ]
+
+  in-outer : (c : List ℕ) → length c ≤ largest → Bytes c → outer kind today c ≡ fault f p → Named kind today c f p
+  in-outer [] l b e = outer-tag ki di l (λ h. let z : _≡_ {A = ℕ} 0 1 = cc in omega arith) (fault-is e) (place-of e)
+  in-outer (t ∷ s) l b e =
+      elim (which (eqb t (outerTag kind))) [
+        | inl q ↦ in-inner (readLength s) t s l (eqb-true _ _ q) refl (b .1) (rw q at e)
+        | inr q ↦
+            let z : fault OuterTag 0 ≡ fault f p = rw q at e in
+            outer-tag ki di l (λ h. let m : t ≡ outerTag kind = cc in true≢false (sym (eq-eqb t (outerTag kind) m) ∙ q)) (fault-is z) (place-of z)
+      ]
+
+pub named : (kind today : ℕ) (c : List ℕ) → Bytes c → (f : Fault) (p : ℕ) → parsed kind today c ≡ fault f p → Named kind today c f p
 unfolding parsed
 named kind today c b f p e =
     elim (which (isKind kind)) [
@@ -134,28 +159,10 @@ named kind today c b f p e =
           elim (which (isDate today)) [
             | inl d ↦
                 elim (which (leb (length c) largest)) [
-                  | inl l ↦ in-outer c b (rw (k, d, l) at e)
-                  | inr l ↦ inl (place-of (rw (k, d, l) at e))
+                  | inl l ↦ in-outer kind today f p (kind-exact kind .0 k) (date-exact today .0 d) c (leb-true _ _ l) b (rw (k, d, l) at e)
+                  | inr l ↦ let q : fault LargeContainer 0 ≡ fault f p = rw (k, d, l) at e in too-large (kind-exact kind .0 k) (date-exact today .0 d) (leb-false _ _ l) (fault-is q) (place-of q)
                 ]
-            | inr d ↦ inl (place-of (rw (k, d) at e))
+            | inr d ↦ let q : fault NoDate 0 ≡ fault f p = rw (k, d) at e in no-date (kind-exact kind .0 k) (λ h. true≢false (sym (date-exact today .1 h) ∙ d)) (fault-is q) (place-of q)
           ]
-      | inr k ↦ inl (place-of (rw k at e))
+      | inr k ↦ let q : fault UnknownKind 0 ≡ fault f p = rw k at e in no-kind (λ h. true≢false (sym (kind-exact kind .1 h) ∙ k)) (fault-is q) (place-of q)
     ]
-  where
-    in-inner : (o : Option Spelt) (t : ℕ) (s : List ℕ) → readLength s ≡ o → Bytes s → inner today (table kind) o s ≡ fault f p
-        → (p ≡ 0) ⊎ ((n : Spelt) × (readLength s ≡ some n) × Before today (table kind) (1 + n .width) (drop (1 + n .width) (t ∷ s)) p)
-    in-inner none t s r b e = inl (place-of e)
-    in-inner (some n) t s r b e =
-        elim (which (eqb (length s) (n .width + n .number))) [
-          | inl q ↦ inr (n, r, rw (← drop-drop (n .width) 1 (t ∷ s)) (before today (table kind) (table kind) (1 + n .width) (drop (n .width) s) (below-drop 256 (n .width) s b) f p (rw q at e)))
-          | inr q ↦ inl (place-of (rw q at e))
-        ]
-
-    in-outer : (c : List ℕ) → Bytes c → outer kind today c ≡ fault f p
-        → (p ≡ 0) ⊎ ((n : Spelt) × (readLength (drop 1 c) ≡ some n) × Before today (table kind) (1 + n .width) (drop (1 + n .width) c) p)
-    in-outer [] b e = inl (place-of e)
-    in-outer (t ∷ s) b e =
-        elim (which (eqb t (outerTag kind))) [
-          | inl q ↦ in-inner (readLength s) t s refl (b .1) (rw q at e)
-          | inr q ↦ inl (place-of (rw q at e))
-        ]

@@ -1,14 +1,21 @@
--- 01, "Order": the elements one by one, in the order in which 01 names the numbers. `proofs/InOrder.antt` shows that this is what is read.
-use Prim.Native.Nat.{ℕ, _+_}
+-- 01, "Order": the elements one by one, in the order in which 01 names the numbers, and the first broken rule. `proofs/InOrder.antt` and
+-- `proofs/Promise.antt` show that this is what is read and named.
+use Prim.Native.Nat.{ℕ, _+_, _<_, _≤_}
+use mathlib.Core.Path.{_≡_}
 use mathlib.Core.Bool.{Bool, true, false, cond, not, _||_}
-use mathlib.Core.List.{List, [], _∷_}
-use lib.ListN.{drop}
+use mathlib.Core.Option.{none, some}
+use mathlib.Core.List.{List, [], _∷_, _++_}
+use lib.ListN.{length, take, drop}
 use lib.Dec.{eqb}
-use Rattle.kinds.specs.Tables.{Entry, Table}
-use Rattle.verdicts.specs.declared.Fault.the-variants.{UnknownTag, TagOrder, MissingRow}
+use Rattle.dates.specs.Date.{IsDate}
+use Rattle.lengths.specs.Length.{Spelt, readLength}
+use Rattle.kinds.specs.Tables.{Entry, Table, table, IsKind}
+use Rattle.verdicts.specs.declared.Fault.{Fault}
+use Rattle.verdicts.specs.declared.Fault.the-variants.{UnknownKind, NoDate, LargeContainer, OuterTag, LengthForm, Overrun, UnknownTag, TagOrder, MissingRow}
 use Rattle.verdicts.specs.declared.Outcome.{Outcome}
 use Rattle.verdicts.specs.declared.Outcome.the-variants.{Broken}
-use Rattle.container.specs.Reading.{Element, whole, broken, element, long, has, parse, outcomeOf}
+use Rattle.container.specs.Container.{Values, encode, outerTag, Allowed, largest}
+use Rattle.container.specs.Reading.{Element, whole, broken, element, long, has, tagHere, parse, outcomeOf}
 
 -- a tag's row among rows to come: whether a mandatory row stands before it, the row, and the rows after it
 pub data Place : Type 0 where
@@ -37,3 +44,38 @@ module _ (today : ℕ) (all : Table) (at : ℕ) (s : List ℕ) (t : ℕ) where
 
   abbrev pub inOrder : Table → Outcome
   inOrder rest = cond (has t all) (placed (locate t rest)) (Broken UnknownTag at)
+
+-- ---- the first broken rule
+
+-- with the rows `rest` of the table `all` to come, the bytes s break the rule f at once: at their end a mandatory row is due, or the element that they
+-- begin with is at fault
+abbrev pub Wrong : ℕ → Table → Table → ℕ → List ℕ → Fault → Type 0
+Wrong today all [] at [] f = ⊥
+Wrong today all (r ∷ rs) at [] f = (r .optional ≡ false) × (f ≡ MissingRow)
+Wrong today all rest at (b ∷ s) f = inOrder today all at (b ∷ s) (tagHere all b s) rest ≡ Broken f at
+
+-- the rule f is the first that is broken in the bytes s, which start at the offset `at`: some of the rows, with values that are allowed, are written as
+-- the bytes before the place, and there, with the other rows to come, f is broken
+pub record First (today : ℕ) (all rest : Table) (at : ℕ) (s : List ℕ) (f : Fault) (place : ℕ) : Type 0 where
+  pub rows : Table
+  pub later : Table
+  pub vs : Values
+  pub split : rest ≡ rows ++ later
+  pub allowed : Allowed today rows vs
+  pub size : ℕ
+  pub place-is : place ≡ at + size
+  pub written : take size s ≡ encode rows vs
+  pub wrong : Wrong today all later place (drop size s) f
+
+-- "Check: 1, 2, 4, then outer 10, 11, 12 (place 0), then each element": the first broken rule of the bytes c, and its place
+pub data Named (kind today : ℕ) (c : List ℕ) (f : Fault) (place : ℕ) : Type 0 where
+  no-kind : (IsKind kind → ⊥) → f ≡ UnknownKind → place ≡ 0 → Named kind today c f place
+  no-date : IsKind kind → (IsDate today → ⊥) → f ≡ NoDate → place ≡ 0 → Named kind today c f place
+  too-large : IsKind kind → IsDate today → largest < length c → f ≡ LargeContainer → place ≡ 0 → Named kind today c f place
+  outer-tag : IsKind kind → IsDate today → length c ≤ largest → (take 1 c ≡ outerTag kind ∷ [] → ⊥) → f ≡ OuterTag → place ≡ 0 → Named kind today c f place
+  outer-length : IsKind kind → IsDate today → length c ≤ largest → take 1 c ≡ outerTag kind ∷ [] → readLength (drop 1 c) ≡ none → f ≡ LengthForm → place ≡ 0
+      → Named kind today c f place
+  outer-end : IsKind kind → IsDate today → length c ≤ largest → take 1 c ≡ outerTag kind ∷ [] → (n : Spelt) → readLength (drop 1 c) ≡ some n
+      → (length c ≡ 1 + n .width + n .number → ⊥) → f ≡ Overrun → place ≡ 0 → Named kind today c f place
+  in-element : IsKind kind → IsDate today → length c ≤ largest → take 1 c ≡ outerTag kind ∷ [] → (n : Spelt) → readLength (drop 1 c) ≡ some n
+      → length c ≡ 1 + n .width + n .number → First today (table kind) (table kind) (1 + n .width) (drop (1 + n .width) c) f place → Named kind today c f place

@@ -1,1 +1,6 @@
 pub mod Examples
+pub mod Rooms
+pub mod Demand1
+pub mod Demand2
+pub mod Demand3
+pub mod Settled

@@ -28,8 +28,9 @@ use Rattle.container.proofs.One.{good-fits, fits-good}
 use Rattle.container.proofs.Promise.{kind-exact, exact, conforms-parsed}
 use Rattle.sheet.specs.Sheet.{sheetOf, Sheeted, IsSheet}
 use Rattle.sheet.specs.Calls.{roomy, readOf, readOutput}
+use Rattle.sheet.proofs.Sheets.{conforming-sheet, conforming-bytes}
 use Rattle.writing.specs.Writing.{opened, keptOr, judged, sizedOut, judgedOut, openedOut, writeOutput}
-use Rattle.writing.proofs.Sheets.{opened-exact, AllBytes, sheet-values, sheet-bytes, container-bytes, container-values, conforms-sheeted}
+use Rattle.writing.proofs.Sheets.{opened-exact, AllBytes, sheet-values, container-bytes}
 
 -- ---- nothing is broken exactly where the values are allowed
 
@@ -169,16 +170,20 @@ read-is : (p : Parsed) (room : ℕ) (s : List ℕ) → readOf p room ≡ text s 
 read-is (values vs) room s e = (vs, refl, roomy-is (sheetOf vs) room s e .0)
 read-is (fault f p) room s e = absurd (no-text e)
 
--- what is read of a container is written as that container
-pub read-write : (kind today : ℕ) (c : List ℕ) → Bytes c → (room₁ room₂ : ℕ) (s : List ℕ) → readOutput kind today c room₁ ≡ text s → length c ≤ room₂ → writeOutput kind today s room₂ ≡ text c
+-- what is read of a container is the sheet of its values
+pub read-values : (kind today : ℕ) (c : List ℕ) → Bytes c → (room : ℕ) (s : List ℕ) → readOutput kind today c room ≡ text s
+    → (vs : Values) × Conforms kind today vs c × IsSheet (table kind) vs s
 unfolding readOutput
+read-values kind today c b room s e =
+    let r = read-is (parsed kind today c) room s e in
+    let f : Conforms kind today (r .0) c = exact kind today c b (r .0) .0 (r .1) in
+    (r .0, f, rw (r .2) at (conforming-sheet kind today (r .0) c f))
+
+-- and is written as that container
+pub read-write : (kind today : ℕ) (c : List ℕ) → Bytes c → (room₁ room₂ : ℕ) (s : List ℕ) → readOutput kind today c room₁ ≡ text s → length c ≤ room₂ → writeOutput kind today s room₂ ≡ text c
 read-write kind today c b room₁ room₂ s e h =
-    let r = read-is (parsed kind today c) room₁ s e in
-    let vs = r .0 in
-    let f : Conforms kind today vs c = exact kind today c b vs .0 (r .1) in
-    let v : AllBytes vs = container-values kind today vs (f .allowed) (rw (f .written) at b) in
-    let bs : Bytes s = rw (r .2) at (sheet-bytes vs v) in
-    accepted kind today s room₂ bs c .1 (vs, record { sections = conforms-sheeted kind today vs c f; written = sym (r .2) }, f, h)
+    let (vs, f, i) = read-values kind today c b room₁ s e in
+    accepted kind today s room₂ (rw (← i .written) at (conforming-bytes kind today vs c f b)) c .1 (vs, i, f, h)
 
 -- what is written of a sheet is read as that sheet
 pub write-read : (kind today : ℕ) (s : List ℕ) → Bytes s → (room₁ room₂ : ℕ) (c : List ℕ) → writeOutput kind today s room₁ ≡ text c → length s ≤ room₂ → readOutput kind today c room₂ ≡ text s

@@ -11,16 +11,15 @@ use lib.Seq.{length-take-le, take-append-seam, drop-append-seam}
 use borrow.Author.Tests.{lt-ltb, le-ltb, ltb-false, eqb-true, eqb-false, ne-eqb}
 use Rattle.laws.specs.Bytes.{Bytes}
 use Rattle.laws.proofs.Bases.{below-append, below-drop}
-use Rattle.laws.proofs.Cases.{which}
+use Rattle.laws.proofs.Cases.{which, no-some}
 use Rattle.kinds.specs.Tables.{Entry, Table, table}
 use Rattle.lengths.specs.Length.{lengthBytes}
 use Rattle.lengths.proofs.Writing.{length-bytes}
-use Rattle.container.specs.Container.{Values, tagBytes, encode, outerTag, container, Allowed, Conforms}
+use Rattle.container.specs.Container.{Values, tagBytes, encode, outerTag, container}
 use Rattle.container.proofs.Tags.{Plain, Tags, short, double, tags}
 use Rattle.container.proofs.Exact.{bytes-front, bytes-back}
 use Rattle.sheet.specs.Sheet.{sheetOf, Sheeted, IsSheet}
 use Rattle.writing.specs.Writing.{opened}
-use Rattle.laws.proofs.Cases.{no-some}
 use Rattle.writing.proofs.Ways.{ahead-some}
 
 -- ---- what is taken apart was a sheet
@@ -96,20 +95,14 @@ AllBytes [] = Unit {0}
 AllBytes (none ∷ vs) = AllBytes vs
 AllBytes (some v ∷ vs) = Bytes v × AllBytes vs
 
--- the values of a sheet of bytes are of bytes, and so is the sheet of such values
+-- the values of a sheet of bytes are of bytes
 pub sheet-values : (vs : Values) → Bytes (sheetOf vs) → AllBytes vs
 unfolding sheetOf
 sheet-values [] b = tt
 sheet-values (none ∷ vs) b = sheet-values vs (b .1 .1)
 sheet-values (some v ∷ vs) b = (bytes-front v (sheetOf vs) (b .1 .1), sheet-values vs (bytes-back v (sheetOf vs) (b .1 .1)))
 
-pub sheet-bytes : (vs : Values) → AllBytes vs → Bytes (sheetOf vs)
-unfolding sheetOf
-sheet-bytes [] b = tt
-sheet-bytes (none ∷ vs) b = (omega arith, (omega arith, sheet-bytes vs b))
-sheet-bytes (some v ∷ vs) b = (omega arith, (omega arith, below-append 256 v (sheetOf vs) (b .0) (sheet-bytes vs (b .1))))
-
--- the same of the elements of a container
+-- and so is a container of such values
 tag-bytes : (all : Table) (t : ℕ) → Plain all t → Bytes (tagBytes t)
 tag-bytes all t (short h k) = rw (lt-ltb t 256 h) (h, tt)
 tag-bytes all t (double e h) = rw e (omega arith, (omega arith, tt))
@@ -133,35 +126,3 @@ pub container-bytes : (kind : ℕ) (vs : Values) → AllBytes vs → Bytes (cont
 container-bytes kind vs b =
     let body = encode (table kind) vs in
     (outer-byte kind, below-append 256 (lengthBytes (length body)) body (length-bytes (length body)) (element-bytes (table kind) (table kind) vs (tags kind) b))
-
-element-values : (today : ℕ) (rows : Table) (vs : Values) → Allowed today rows vs → Bytes (encode rows vs) → AllBytes vs
-element-values today [] [] a b = tt
-element-values today [] (o ∷ vs) a b = absurd a
-element-values today (r ∷ rs) [] a b = absurd a
-element-values today (r ∷ rs) (none ∷ vs) a b = element-values today rs vs (a .1) b
-element-values today (r ∷ rs) (some v ∷ vs) a b =
-    let c : Bytes (v ++ encode rs vs) = bytes-back (lengthBytes (length v)) (v ++ encode rs vs) (bytes-back (tagBytes (r .tag)) (lengthBytes (length v) ++ (v ++ encode rs vs)) b) in
-    (bytes-front v (encode rs vs) c, element-values today rs vs (a .1) (bytes-back v (encode rs vs) c))
-
-pub container-values : (kind today : ℕ) (vs : Values) → Allowed today (table kind) vs → Bytes (container kind vs) → AllBytes vs
-container-values kind today vs a b =
-    let body = encode (table kind) vs in
-    element-values today (table kind) vs a (bytes-back (lengthBytes (length body)) body (b .1))
-
--- ---- what is allowed and fits a container can be counted in a sheet
-
-element-counts : (today : ℕ) (rows : Table) (vs : Values) → Allowed today rows vs → length (encode rows vs) < 65535 → Sheeted rows vs
-element-counts today [] [] a h = tt
-element-counts today [] (o ∷ vs) a h = absurd a
-element-counts today (r ∷ rs) [] a h = absurd a
-element-counts today (r ∷ rs) (none ∷ vs) a h = (tt, element-counts today rs vs (a .1) h)
-element-counts today (r ∷ rs) (some v ∷ vs) a h =
-    let k = length-append (tagBytes (r .tag)) (lengthBytes (length v) ++ (v ++ encode rs vs)) in
-    let l = length-append (lengthBytes (length v)) (v ++ encode rs vs) in
-    let m = length-append v (encode rs vs) in
-    (omega (arith, k, l, m), element-counts today rs vs (a .1) (omega (arith, k, l, m)))
-
-pub conforms-sheeted : (kind today : ℕ) (vs : Values) (c : List ℕ) → Conforms kind today vs c → Sheeted (table kind) vs
-conforms-sheeted kind today vs c h =
-    let body = encode (table kind) vs in
-    element-counts today (table kind) vs (h .allowed) (omega (arith, h .size-is, ap length (h .written), length-append (lengthBytes (length body)) body))

@@ -9,7 +9,7 @@ use native.Mathlib.Omega.{arith}
 use lib.Dec.{ltb, eqb}
 use lib.ListN.{length, take, drop, length-append}
 use borrow.Author.Tests.{lt-ltb, le-ltb, le-leb, lt-leb, ltb-true, ltb-false}
-use Rattle.laws.proofs.Cases.{which, not-so, either}
+use Rattle.laws.proofs.Cases.{which, not-so, either, no-some}
 use Rattle.dates.specs.Date.{isDate}
 use Rattle.kinds.specs.Tables.{Table, table, isKind}
 use Rattle.lengths.specs.Length.{lengthBytes}
@@ -22,7 +22,6 @@ use Rattle.container.proofs.Promise.{kind-exact}
 use Rattle.writing.specs.Writing.{ahead, opened, judged, sizedOut, writeOutput}
 use Rattle.writing.specs.Sections.{held, bodyOf}
 use Rattle.writing.specs.declared.Body.the-variants.{Cut, Takes}
-use Rattle.laws.proofs.Cases.{no-some}
 
 -- ---- a sheet that is whole holds its values
 

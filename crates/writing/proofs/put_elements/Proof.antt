@@ -4,12 +4,11 @@ use mathlib.Core.Path.{_≡_, refl, sym, _∙_}
 use native.Mathlib.Omega.{arith}
 use lib.ListN.{length}
 use borrow.Author.Needs.{needs}
-use Rattle.laws.proofs.Rooms.{same-room}
+use Rattle.laws.proofs.Rooms.{same-room, Left, begin, same, step, ended}
 use Rattle.kinds.specs.Tables.{table}
 use Rattle.container.specs.Container.{encode}
 use Rattle.writing.specs.Sections.{Inside, held}
 use Rattle.writing.specs.declared.Section.the-variants.{Value}
-use Rattle.laws.proofs.Rooms.{Left, begin, same, step, ended}
 use Rattle.writing.proofs.Rows.{Skipped, Met, skipped, met}
 use Rattle.writing.proofs.Passes.{counted, small-tag, textFrom, text-all, text-torn, text-end, text-absent, text-value}
 use Rattle.writing.proofs.put_elements.Statement.{statement}

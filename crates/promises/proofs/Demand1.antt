@@ -1,0 +1,164 @@
+-- Demand 1, of all seven calls. Assumes nothing.
+use Prim.Native.Nat.{ℕ, _+_, _≤_}
+use mathlib.Core.Logic.{_⊎_, inl, inr}
+use mathlib.Core.Path.{_≡_, refl, sym, _∙_}
+use mathlib.Core.Bool.{_&&_}
+use mathlib.Core.Option.{Option, none, some}
+use mathlib.Core.List.{List, []}
+use native.Mathlib.Omega.{arith}
+use lib.ListN.{length}
+use lib.Dec.{ltb, leb, eqb}
+use borrow.Author.Tests.{ltb-false}
+use Rattle.laws.specs.Room.{filled}
+use Rattle.laws.proofs.Cases.{which}
+use Rattle.laws.proofs.Rooms.{length-filled, filled-none}
+use Rattle.dates.specs.Date.{isDate}
+use Rattle.kinds.specs.Tables.{table, isKind}
+use Rattle.fascn.specs.Fascn.{encoded, inRange}
+use Rattle.fascn.specs.Reading.{valuesOf, framed, decoded}
+use Rattle.fascn.specs.Calls.{status, output, Encoded}
+use Rattle.fascn.specs.declared.Numbers.{Numbers}
+use Rattle.fascn.proofs.Packing.{length-encoded}
+use Rattle.verdicts.specs.Verdicts.{verdictOf}
+use Rattle.verdicts.specs.declared.Fault.the-variants.{SmallRoom, LongNumber, NoElement, BadFascn}
+use Rattle.verdicts.specs.declared.Outcome.{Outcome}
+use Rattle.verdicts.specs.declared.Outcome.the-variants.{Fine, Broken}
+use Rattle.container.specs.Container.{Values, container, largest}
+use Rattle.container.specs.Reading.{Parsed, values, fault, parsed, outcome, verdict}
+use Rattle.container.specs.Places.{Part, start, partOf}
+use Rattle.sheet.specs.Sheet.{sheetOf}
+use Rattle.sheet.specs.Calls.{roomy, readOf, readOutput}
+use Rattle.writing.specs.Writing.{opened, judged, sizedOut, judgedOut, openedOut, writeOutput}
+use Rattle.views.specs.Views.{shown, viewOf, viewed}
+use Rattle.report.specs.Calls.{reportOutput}
+use Rattle.report.proofs.Answers.{report-cases}
+use Rattle.promises.specs.Demands.{Numbered, Clean, Demand1}
+use Rattle.promises.proofs.Rooms.{back, answer, Fits, clean}
+
+-- ---- every number is of 01's table
+
+numbered : (o : Outcome) → Numbered (verdictOf o .number)
+numbered Fine = inl refl
+numbered (Broken f p) = inr (f, refl)
+
+viewed-numbered : (kind today : ℕ) (c : List ℕ) (tag : ℕ) → Numbered (viewed kind today c tag .number)
+unfolding viewed
+viewed-numbered kind today c tag = go (parsed kind today c)
+  where
+    part : (o : Option Part) → Numbered (shown o .number)
+    part none = inr (NoElement, refl)
+    part (some p) = inl refl
+
+    go : (p : Parsed) → Numbered (viewOf kind p tag .number)
+    go (values vs) = part (partOf (table kind) vs (start kind vs) tag)
+    go (fault f p) = inr (f, refl)
+
+decoded-numbered : (s : List ℕ) → Numbered (decoded s .number)
+unfolding decoded
+decoded-numbered s = elim (which (eqb (length s) 25 && framed (valuesOf s))) [
+  | inl p ↦ inl (rw p)
+  | inr p ↦ inr (BadFascn, rw p)
+]
+
+-- ---- every output goes into its room
+
+roomy-fits : (t : List ℕ) (room : ℕ) → Fits room (roomy t room)
+roomy-fits t room = elim (which (ltb room (length t))) [
+  | inl l ↦ rw l tt
+  | inr l ↦ rw l (ltb-false _ _ l)
+]
+
+read-fits : (kind today : ℕ) (c : List ℕ) (room : ℕ) → Fits room (readOutput kind today c room)
+unfolding readOutput
+read-fits kind today c room = go (parsed kind today c)
+  where
+    go : (p : Parsed) → Fits room (readOf p room)
+    go (values vs) = roomy-fits (sheetOf vs) room
+    go (fault f p) = tt
+
+write-fits : (kind today : ℕ) (s : List ℕ) (room : ℕ) → Fits room (writeOutput kind today s room)
+unfolding writeOutput
+write-fits kind today s room =
+    elim (which (isKind kind)) [
+      | inl k ↦
+          elim (which (isDate today)) [
+            | inl d ↦ rw (k, d) (whole (opened (table kind) s))
+            | inr d ↦ rw (k, d) tt
+          ]
+      | inr k ↦ rw k tt
+    ]
+  where
+    sized : (c : List ℕ) → Fits room (sizedOut c room)
+    sized c = elim (which (leb (length c) largest)) [
+      | inl l ↦ rw l (roomy-fits c room)
+      | inr l ↦ rw l tt
+    ]
+
+    ruled : (o : Outcome) (c : List ℕ) → Fits room (judgedOut o c room)
+    ruled Fine c = sized c
+    ruled (Broken f p) c = tt
+
+    whole : (o : Option Values) → Fits room (openedOut kind today o room)
+    whole none = tt
+    whole (some vs) = ruled (judged today (table kind) vs 0) (container kind vs)
+
+report-fits : (kind today : ℕ) (c : List ℕ) (room : ℕ) → Fits room (reportOutput kind today c room)
+report-fits kind today c room = report-cases kind today c room (Fits room) (λ f. tt) (λ t l s. omega arith)
+
+-- ---- encoding: 7, 3, or the 25 bytes
+
+encode-clean : (n : Numbers) (d e : List ℕ) (k : ℕ) → Encoded n d e k → ((k ≡ 0) × Clean d e k 25) ⊎ Clean d e k 0
+unfolding status output
+encode-clean n d e k l =
+    elim (which (inRange n)) [
+      | inl r ↦
+          elim (which (ltb (length d) 25)) [
+            | inl s ↦ inr (empty (inr (SmallRoom, l .answer ∙ rw (r, s))) (l .room ∙ rw (r, s)))
+            | inr s ↦ inl (l .answer ∙ rw (r, s), whole (l .answer ∙ rw (r, s)) (ltb-false (length d) 25 s) (l .room ∙ rw (r, s)))
+          ]
+      | inr r ↦ inr (empty (inr (LongNumber, l .answer ∙ rw r)) (l .room ∙ rw r))
+    ]
+  where
+    empty : Numbered k → e ≡ filled [] (length d) → Clean d e k 0
+    empty a q = rw q (record {
+      by-number = a;
+      same-room = length-filled [] (length d) (omega arith);
+      refused = λ z. sym (filled-none (length d));
+      inside = omega arith;
+      behind = back [] (length d);
+    })
+
+    whole : k ≡ 0 → 25 ≤ length d → e ≡ filled (encoded n) (length d) → Clean d e k 25
+    whole z h q =
+        let f = length-encoded n in
+        rw q (record {
+          by-number = inl z;
+          same-room = length-filled (encoded n) (length d) (omega (arith, f));
+          refused = λ n. absurd (n z);
+          inside = h;
+          behind = rw f at (back (encoded n) (length d));
+        })
+
+-- ---- the theorem
+
+pub demand-1 : Demand1
+demand-1 = record {
+  check-answers = λ kind today c. (verdict kind today c, record { answer = refl }, numbered (outcome kind today c));
+  read-answers = λ kind today c before. (_, _, record { leaves = answer (readOutput kind today c (length before)) before });
+  write-answers = λ kind today s before. (_, _, record { leaves = answer (writeOutput kind today s (length before)) before });
+  view-answers = λ kind today c tag at. let v = viewed kind today c tag in (
+    v .number,
+    v .place,
+    (at .0, at .1 + v .part .offset),
+    v .part .bytes,
+    record { shows = record { number-is = refl; place-is = refl; block-is = refl; offset-is = refl; bytes-are = refl } },
+    viewed-numbered kind today c tag,
+  );
+  report-answers = λ kind today c before. (_, _, record { leaves = answer (reportOutput kind today c (length before)) before });
+  decode-answers = λ s. (decoded s, record { answer = refl }, decoded-numbered s);
+  encode-answers = λ n before. (_, _, record { leaves = record { answer = refl; room = refl } });
+  read-clean = λ kind today c before after r h. clean (readOutput kind today c (length before)) before (read-fits kind today c (length before)) (h .leaves);
+  write-clean = λ kind today s before after r h. clean (writeOutput kind today s (length before)) before (write-fits kind today s (length before)) (h .leaves);
+  report-clean = λ kind today c before after r h. clean (reportOutput kind today c (length before)) before (report-fits kind today c (length before)) (h .leaves);
+  encode-clean = λ n before after number h. encode-clean n before after number (h .leaves);
+}

@@ -1,0 +1,158 @@
+-- Demand 2: conforms exactly when, the first broken rule, there and back. Assumes nothing.
+use Prim.Native.Nat.{ℕ, _≤_}
+use mathlib.Core.Logic.{_↔_, inl, inr}
+use mathlib.Core.Path.{_≡_, refl, sym, ap, _∙_}
+use mathlib.Core.Bool.{true}
+use mathlib.Core.List.{List}
+use native.Mathlib.Omega.{arith}
+use lib.ListN.{length, take}
+use lib.Dec.{ltb}
+use borrow.Author.Tests.{le-ltb}
+use Rattle.laws.specs.Bytes.{Bytes}
+use Rattle.laws.proofs.Cases.{which}
+use Rattle.fascn.specs.Fascn.{encoded, inRange, IsFascn}
+use Rattle.fascn.specs.Reading.{decoded, success}
+use Rattle.fascn.specs.Calls.{status, output, Encoded}
+use Rattle.fascn.specs.declared.Numbers.{Numbers}
+use Rattle.fascn.specs.declared.Decoded.{Decoded}
+use Rattle.fascn.proofs.Framing.{range-exact}
+use Rattle.fascn.proofs.Packing.{length-encoded}
+use Rattle.fascn.proofs.Codec.{decoded-exact, round-trip}
+use Rattle.verdicts.specs.Verdicts.{numberOf, verdictOf}
+use Rattle.verdicts.specs.declared.Fault.{Fault}
+use Rattle.verdicts.specs.declared.Verdict.{Verdict}
+use Rattle.verdicts.specs.declared.Done.{Done}
+use Rattle.kinds.specs.Tables.{table}
+use Rattle.container.specs.Container.{Values, Conforms}
+use Rattle.container.specs.Reading.{Parsed, values, fault, parsed, outcomeOf, outcome, verdict}
+use Rattle.container.specs.InOrder.{Named}
+use Rattle.container.proofs.Promise.{exactly-when, unique, named}
+use Rattle.sheet.specs.Sheet.{IsSheet}
+use Rattle.sheet.specs.Calls.{readOutput}
+use Rattle.writing.specs.Writing.{writeOutput}
+use Rattle.writing.proofs.Promise.{accepted, read-values, read-write, write-read}
+use Rattle.views.specs.Views.{View, viewed}
+use Rattle.views.proofs.Elements.{Shows, element-view, absent-view, foreign-view}
+use Rattle.prosianek.specs.Calls.{Reads, Writes, Views}
+use Rattle.promises.specs.Demands.{Shown, Demand2}
+use Rattle.promises.proofs.Rooms.{front, text-of, gave}
+
+-- ---- the first broken rule
+
+first-named : (kind today : ℕ) (c : List ℕ) → Bytes c → (r : Verdict) → r ≡ verdict kind today c → (r .number ≡ 0 → ⊥)
+    → (f : Fault) × (r .number ≡ numberOf f) × Named kind today c f (r .place)
+unfolding outcome
+first-named kind today c b r a n = go (parsed kind today c) refl
+  where
+    go : (p : Parsed) → parsed kind today c ≡ p → (f : Fault) × (r .number ≡ numberOf f) × Named kind today c f (r .place)
+    go (values vs) e = absurd (n (rw (a, e)))
+    go (fault f p) e =
+        let q : r ≡ record { number = numberOf f; place = p } = a ∙ ap (λ (x : Parsed). verdictOf (outcomeOf x)) e in
+        (f, ap (λ (v : Verdict). v .number) q, rw q (named kind today c b f p e))
+
+-- ---- sheets
+
+module _ (kind today : ℕ) where
+  reads : (c before after : List ℕ) (r : Done) → Bytes c → Reads kind today c before after r → r .number ≡ 0
+      → (vs : Values) × Conforms kind today vs c × IsSheet (table kind) vs (take (r .length) after)
+  reads c before after r b h z =
+      let t = text-of (readOutput kind today c (length before)) before (h .leaves) z in
+      let v = read-values kind today c b (length before) (t .0) (t .1) in
+      (v .0, v .1, rw (t .2) (v .2))
+
+  writes : (s before after : List ℕ) (r : Done) → Bytes s → Writes kind today s before after r → r .number ≡ 0
+      → (vs : Values) × IsSheet (table kind) vs s × Conforms kind today vs (take (r .length) after)
+  writes s before after r b h z =
+      let t = text-of (writeOutput kind today s (length before)) before (h .leaves) z in
+      let v = accepted kind today s (length before) b (t .0) .0 (t .1) in
+      (v .0, v .1, rw (t .2) (v .2))
+
+  accepts : (s before after : List ℕ) (r : Done) → Bytes s → Writes kind today s before after r
+      → (r .number ≡ 0) ↔ ((vs : Values) × (c : List ℕ) × IsSheet (table kind) vs s × Conforms kind today vs c × (length c ≤ length before))
+  accepts s before after r b h = (
+    λ z. let t = text-of (writeOutput kind today s (length before)) before (h .leaves) z in
+        let v = accepted kind today s (length before) b (t .0) .0 (t .1) in
+        (v .0, t .0, v .1, v .2, v .3),
+    λ v. gave before (accepted kind today s (length before) b (v .1) .1 (v .0, v .2, v .3, v .4)) (h .leaves) .0,
+  )
+
+  there : (c before after : List ℕ) (r : Done) → Bytes c → Reads kind today c before after r → r .number ≡ 0
+      → (before₂ after₂ : List ℕ) (r₂ : Done) → Writes kind today (take (r .length) after) before₂ after₂ r₂ → length c ≤ length before₂
+      → (r₂ .number ≡ 0) × (take (r₂ .length) after₂ ≡ c)
+  there c before after r b h z before₂ after₂ r₂ k l =
+      let t = text-of (readOutput kind today c (length before)) before (h .leaves) z in
+      gave before₂ (rw (t .2) (read-write kind today c b (length before) (length before₂) (t .0) (t .1) l)) (k .leaves)
+
+  back : (s before after : List ℕ) (r : Done) → Bytes s → Writes kind today s before after r → r .number ≡ 0
+      → (before₂ after₂ : List ℕ) (r₂ : Done) → Reads kind today (take (r .length) after) before₂ after₂ r₂ → length s ≤ length before₂
+      → (r₂ .number ≡ 0) × (take (r₂ .length) after₂ ≡ s)
+  back s before after r b h z before₂ after₂ r₂ k l =
+      let t = text-of (writeOutput kind today s (length before)) before (h .leaves) z in
+      gave before₂ (rw (t .2) (write-read kind today s b (length before) (length before₂) (t .0) (t .1) l)) (k .leaves)
+
+-- ---- views
+
+shown : (kind today : ℕ) (c : List ℕ) (tag : ℕ) {v : List ℕ} {at : ℕ × ℕ} {number place : ℕ} {part : ℕ × ℕ} {bytes : List ℕ}
+    → Shows c v (viewed kind today c tag) → Views kind today c tag at number place part bytes → Shown c v at number place part bytes
+shown kind today c tag s a = record {
+  number-is = a .shows .number-is ∙ s .number;
+  place-is = a .shows .place-is ∙ s .place;
+  bytes-are = a .shows .bytes-are ∙ s .value;
+  offset = viewed kind today c tag .part .offset;
+  block-is = a .shows .block-is;
+  part-is = a .shows .offset-is;
+  inside = s .inside;
+  stands = s .stands;
+}
+
+-- ---- a FASC-N alone
+
+decodes : (s : List ℕ) → Bytes s → (decoded s .number ≡ 0) ↔ IsFascn s
+decodes s b = (λ z. (decoded s .numbers, decoded-exact s b (decoded s .numbers) .0 (λ i. record { number = z i; numbers = decoded s .numbers })), λ f. rw (decoded-exact s b (f .0) .1 (f .1)))
+
+encoded-0 : (n : Numbers) (d e : List ℕ) → Encoded n d e 0 → (inRange n ≡ true) × (take 25 e ≡ encoded n)
+unfolding status output
+encoded-0 n d e l =
+    elim (which (inRange n)) [
+      | inl r ↦
+          elim (which (ltb (length d) 25)) [
+            | inl s ↦ let z : _≡_ {A = ℕ} 0 3 = l .answer ∙ rw (r, s) in absurd (omega arith)
+            | inr s ↦ (r, rw (length-encoded n) at (ap (take (length (encoded n))) (l .room ∙ rw (r, s)) ∙ front (encoded n) (length d)))
+          ]
+      | inr r ↦ let z : _≡_ {A = ℕ} 0 7 = l .answer ∙ rw r in absurd (omega arith)
+    ]
+
+encoding : (n : Numbers) (d e : List ℕ) (k : ℕ) → inRange n ≡ true → 25 ≤ length d → Encoded n d e k → k ≡ 0
+unfolding status
+encoding n d e k r h l = l .answer ∙ rw (r, le-ltb (length d) 25 h)
+
+-- ---- the theorem
+
+pub demand-2 : Demand2
+demand-2 = record {
+  exactly-when = λ kind today c b r a. rw (a .answer) (exactly-when kind today c b);
+  only-one = unique;
+  first-named = λ kind today c b r a. first-named kind today c b r (a .answer);
+  read-values = reads;
+  write-values = writes;
+  accepted-when = accepts;
+  read-then-write = there;
+  write-then-read = back;
+  view-value = λ kind today c b vs h i t o e v q at number place part bytes a. shown kind today c t (element-view kind today c b vs h i e v q) a;
+  view-absent = λ kind today c b vs h i t o e q at number place part bytes a.
+      let w = absent-view kind today c b vs h i e q in
+      (a .shows .number-is ∙ ap (λ (v : View). v .number) w, a .shows .bytes-are ∙ ap (λ (v : View). v .part .bytes) w);
+  view-foreign = λ kind today c b vs h t n at number place part bytes a.
+      let w = foreign-view kind today c b vs h t n in
+      (a .shows .number-is ∙ ap (λ (v : View). v .number) w, a .shows .bytes-are ∙ ap (λ (v : View). v .part .bytes) w);
+  decodes-when = λ s b r a. rw (a .answer) (decodes s b);
+  encode-then-decode = λ n before after h r a.
+      let e = encoded-0 n before after (h .leaves) in
+      let q : r ≡ success n = a .answer ∙ ap decoded (e .1) ∙ round-trip n (range-exact n .0 (e .0)) in
+      (ap (λ (d : Decoded). d .number) q, ap (λ (d : Decoded). d .numbers) q);
+  decode-then-encode = λ s b r a z before after number h l.
+      let q : decoded s ≡ success (r .numbers) = sym (a .answer) ∙ (λ i. record { number = z i; numbers = r .numbers }) in
+      let c = decoded-exact s b (r .numbers) .0 q in
+      let k = encoding (r .numbers) before after number (range-exact (r .numbers) .1 (c .in-range)) l (h .leaves) in
+      (k, encoded-0 (r .numbers) before after (rw k at (h .leaves)) .1 ∙ sym (c .written));
+}

@@ -1,0 +1,60 @@
+-- What a call left in a room, by its output. Assumes nothing.
+use Prim.Native.Nat.{ℕ, _-_, _≤_}
+use mathlib.Core.Logic.{inl, inr}
+use mathlib.Core.Path.{_≡_, refl, sym, ap, _∙_}
+use mathlib.Core.List.{List, []}
+use native.Mathlib.Omega.{arith}
+use lib.ListN.{length, take, drop}
+use lib.Seq.{take-append-seam, drop-append-seam}
+use Rattle.laws.specs.Room.{zeros, filled}
+use Rattle.laws.proofs.Rooms.{length-filled, filled-none}
+use Rattle.verdicts.specs.Output.{Output, refusal, text, bytesOf, doneOf, Leaves}
+use Rattle.verdicts.specs.declared.Done.{Done}
+use Rattle.verdicts.proofs.Apart.{never-zero}
+use Rattle.promises.specs.Demands.{Clean}
+
+-- the text at the front of a filled room, and the zeros behind it
+pub front : (t : List ℕ) (n : ℕ) → take (length t) (filled t n) ≡ t
+unfolding filled
+front t n = take-append-seam t (zeros (n - length t))
+
+pub back : (t : List ℕ) (n : ℕ) → drop (length t) (filled t n) ≡ zeros (n - length t)
+unfolding filled
+back t n = drop-append-seam t (zeros (n - length t))
+
+-- every output has an answer
+pub answer : (o : Output) (d : List ℕ) → Leaves o d (filled (bytesOf o) (length d)) (doneOf o)
+answer o d = record { answer = refl; room = refl }
+
+-- the output of a call that answered 0
+pub text-of : (o : Output) (d : List ℕ) {e : List ℕ} {r : Done} → Leaves o d e r → r .number ≡ 0 → (t : List ℕ) × (o ≡ text t) × (take (r .length) e ≡ t)
+text-of (refusal f p) d l z = absurd (never-zero f (sym (ap (λ (x : Done). x .number) (l .answer)) ∙ z))
+text-of (text t) d l z = (t, refl, rw (l .answer, l .room) (front t (length d)))
+
+-- and what a call left that has an output
+pub gave : {o : Output} {t : List ℕ} (d : List ℕ) {e : List ℕ} {r : Done} → o ≡ text t → Leaves o d e r → (r .number ≡ 0) × (take (r .length) e ≡ t)
+gave {t = t} d q l = (rw (l .answer, q), rw (l .answer, l .room, q) (front t (length d)))
+
+-- an output that goes into a room of so many bytes
+abbrev pub Fits : ℕ → Output → Type 0
+Fits room (refusal f p) = Unit {0}
+Fits room (text t) = length t ≤ room
+
+pub clean : (o : Output) (d : List ℕ) {e : List ℕ} {r : Done} → Fits (length d) o → Leaves o d e r → Clean d e (r .number) (r .length)
+clean (refusal f p) d h l =
+    let z = filled-none (length d) in
+    rw (l .answer, l .room) (record {
+      by-number = inr (f, refl);
+      same-room = length-filled [] (length d) (omega arith);
+      refused = λ n. sym z;
+      inside = omega arith;
+      behind = back [] (length d);
+    })
+clean (text t) d h l =
+    rw (l .answer, l .room) (record {
+      by-number = inl refl;
+      same-room = length-filled t (length d) h;
+      refused = λ n. absurd (n refl);
+      inside = h;
+      behind = back t (length d);
+    })

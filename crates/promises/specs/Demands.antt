@@ -1,0 +1,165 @@
+-- The user's three demands, in the user's order and words, as statements about the seven calls of the door (`Checks`, `Reads`, `Writes`, `Views`,
+-- `Reports`, `Decodes`, `Encodes`: what a call answers and leaves). Each is a record of statements, and `proofs/` has the theorem for each: `demand-1`,
+-- `demand-2`, `demand-3`; and `settled`, that no answer is left open.
+--
+-- A room is `before` when it is lent and `after` when it comes back. `Bytes c` says that each number of c is below 256, as it is in every slice that a
+-- program can give.
+use Prim.Native.Nat.{ℕ, _+_, _-_, _≤_}
+use mathlib.Core.Logic.{_⊎_, _↔_}
+use mathlib.Core.Path.{_≡_}
+use mathlib.Core.Bool.{Bool}
+use mathlib.Core.Option.{none, some}
+use mathlib.Core.List.{List, []}
+use lib.ListN.{length, take, drop, getD}
+use Rattle.laws.specs.Bytes.{Bytes}
+use Rattle.laws.specs.Room.{zeros, filled}
+use Rattle.dates.specs.Date.{IsDate}
+use Rattle.fascn.specs.Fascn.{IsFascn}
+use Rattle.fascn.specs.declared.Numbers.{Numbers}
+use Rattle.fascn.specs.declared.Decoded.{Decoded}
+use Rattle.verdicts.specs.Verdicts.{numberOf}
+use Rattle.verdicts.specs.declared.Fault.{Fault}
+use Rattle.verdicts.specs.declared.Fault.the-variants.{NoElement}
+use Rattle.verdicts.specs.declared.Verdict.{Verdict}
+use Rattle.verdicts.specs.declared.Done.{Done}
+use Rattle.kinds.specs.Tables.{table, IsKind, rowAt}
+use Rattle.kinds.specs.declared.Place.the-variants.{Holds}
+use Rattle.container.specs.Container.{Values, Conforms, largest}
+use Rattle.container.specs.Reading.{parsed}
+use Rattle.container.specs.InOrder.{Named}
+use Rattle.sheet.specs.Sheet.{IsSheet}
+use Rattle.report.specs.Open.{openOf, shape}
+use Rattle.report.specs.Report.{reportText}
+use Rattle.prosianek.specs.Calls.{Checks, Reads, Writes, Views, Reports, Decodes, Encodes}
+
+-- ---- Demand 1. "Every byte string, date and room size gets an answer, and every call ends. Bad input is refused by number, without the caller having
+-- checked it. A refusal leaves the lent output room all zeros; a success leaves zeros after the last byte of output."
+--
+-- That a call ends, and asks nothing, is in every function's own theorem: none of the door's has a `requires`.
+
+-- 0, or the number of a fault in 01's table
+abbrev pub Numbered : ℕ → Type 0
+Numbered n = (n ≡ 0) ⊎ ((f : Fault) × (n ≡ numberOf f))
+
+-- a call answered this number and wrote so many bytes: a refusal left zeros alone, and behind the output there are zeros
+pub record Clean (before after : List ℕ) (number size : ℕ) : Type 0 where
+  pub by-number : Numbered number
+  pub same-room : length after ≡ length before
+  pub refused : (number ≡ 0 → ⊥) → after ≡ zeros (length before)
+  pub inside : size ≤ length before
+  pub behind : drop size after ≡ zeros (length before - size)
+
+pub record Demand1 : Type 0 where
+  -- there is an answer, whatever is given and whatever a room held
+  pub check-answers : (kind today : ℕ) (c : List ℕ) → (r : Verdict) × Checks kind today c r × Numbered (r .number)
+  pub read-answers : (kind today : ℕ) (c before : List ℕ) → (after : List ℕ) × (r : Done) × Reads kind today c before after r
+  pub write-answers : (kind today : ℕ) (s before : List ℕ) → (after : List ℕ) × (r : Done) × Writes kind today s before after r
+  pub view-answers : (kind today : ℕ) (c : List ℕ) (tag : ℕ) (at : ℕ × ℕ)
+      → (number place : ℕ) × (part : ℕ × ℕ) × (bytes : List ℕ) × Views kind today c tag at number place part bytes × Numbered number
+  pub report-answers : (kind today : ℕ) (c before : List ℕ) → (after : List ℕ) × (r : Done) × Reports kind today c before after r
+  pub decode-answers : (s : List ℕ) → (r : Decoded) × Decodes s r × Numbered (r .number)
+  pub encode-answers : (n : Numbers) (before : List ℕ) → (after : List ℕ) × (number : ℕ) × Encodes n before after number
+  -- and it leaves a lent room clean
+  pub read-clean : (kind today : ℕ) (c before after : List ℕ) (r : Done) → Reads kind today c before after r → Clean before after (r .number) (r .length)
+  pub write-clean : (kind today : ℕ) (s before after : List ℕ) (r : Done) → Writes kind today s before after r → Clean before after (r .number) (r .length)
+  pub report-clean : (kind today : ℕ) (c before after : List ℕ) (r : Done) → Reports kind today c before after r → Clean before after (r .number) (r .length)
+  pub encode-clean : (n : Numbers) (before after : List ℕ) (number : ℕ) → Encodes n before after number
+      → ((number ≡ 0) × Clean before after number 25) ⊎ Clean before after number 0
+
+-- ---- Demand 2. "Under a given date a container of a known kind conforms exactly when some values allowed by the rules are written as those bytes;
+-- otherwise the first broken rule and its place are named. Writing the values that were read gives the container back byte for byte, and reading what was
+-- written gives the values back."
+
+-- a view that shows the value v of the container c, which stands at `at`: 0, the bytes, and where they stand
+pub record Shown (c v : List ℕ) (at : ℕ × ℕ) (number place : ℕ) (part : ℕ × ℕ) (bytes : List ℕ) : Type 0 where
+  pub number-is : number ≡ 0
+  pub place-is : place ≡ 0
+  pub bytes-are : bytes ≡ v
+  pub offset : ℕ
+  pub block-is : part .0 ≡ at .0
+  pub part-is : part .1 ≡ at .1 + offset
+  pub inside : offset + length v ≤ length c
+  pub stands : take (length v) (drop offset c) ≡ v
+
+pub record Demand2 : Type 0 where
+  -- "conforms exactly when some values allowed by the rules are written as those bytes"; and there is only one such list of values
+  pub exactly-when : (kind today : ℕ) (c : List ℕ) → Bytes c → (r : Verdict) → Checks kind today c r
+      → (r .number ≡ 0) ↔ ((vs : Values) × Conforms kind today vs c)
+  pub only-one : (kind today : ℕ) (c : List ℕ) → Bytes c → (vs ws : Values) → Conforms kind today vs c → Conforms kind today ws c → vs ≡ ws
+  -- "otherwise the first broken rule and its place are named"
+  pub first-named : (kind today : ℕ) (c : List ℕ) → Bytes c → (r : Verdict) → Checks kind today c r → (r .number ≡ 0 → ⊥)
+      → (f : Fault) × (r .number ≡ numberOf f) × Named kind today c f (r .place)
+  -- a sheet that was read holds the container's values, and a container that was written has the sheet's
+  pub read-values : (kind today : ℕ) (c before after : List ℕ) (r : Done) → Bytes c → Reads kind today c before after r → r .number ≡ 0
+      → (vs : Values) × Conforms kind today vs c × IsSheet (table kind) vs (take (r .length) after)
+  pub write-values : (kind today : ℕ) (s before after : List ℕ) (r : Done) → Bytes s → Writes kind today s before after r → r .number ≡ 0
+      → (vs : Values) × IsSheet (table kind) vs s × Conforms kind today vs (take (r .length) after)
+  -- a sheet is accepted exactly when it holds allowed values whose container fits the room
+  pub accepted-when : (kind today : ℕ) (s before after : List ℕ) (r : Done) → Bytes s → Writes kind today s before after r
+      → (r .number ≡ 0) ↔ ((vs : Values) × (c : List ℕ) × IsSheet (table kind) vs s × Conforms kind today vs c × (length c ≤ length before))
+  -- "Writing the values that were read gives the container back byte for byte"
+  pub read-then-write : (kind today : ℕ) (c before after : List ℕ) (r : Done) → Bytes c → Reads kind today c before after r → r .number ≡ 0
+      → (before₂ after₂ : List ℕ) (r₂ : Done) → Writes kind today (take (r .length) after) before₂ after₂ r₂ → length c ≤ length before₂
+      → (r₂ .number ≡ 0) × (take (r₂ .length) after₂ ≡ c)
+  -- "and reading what was written gives the values back"
+  pub write-then-read : (kind today : ℕ) (s before after : List ℕ) (r : Done) → Bytes s → Writes kind today s before after r → r .number ≡ 0
+      → (before₂ after₂ : List ℕ) (r₂ : Done) → Reads kind today (take (r .length) after) before₂ after₂ r₂ → length s ≤ length before₂
+      → (r₂ .number ≡ 0) × (take (r₂ .length) after₂ ≡ s)
+  -- a view of a row, whose tag is t, shows the row's value where it stands; 6 and no bytes for an absent row and for a tag of no row
+  pub view-value : (kind today : ℕ) (c : List ℕ) → Bytes c → (vs : Values) → Conforms kind today vs c → (i t : ℕ) (o : Bool) → rowAt kind i ≡ Holds t o
+      → (v : List ℕ) → getD vs i none ≡ some v → (at : ℕ × ℕ) (number place : ℕ) (part : ℕ × ℕ) (bytes : List ℕ) → Views kind today c t at number place part bytes
+      → Shown c v at number place part bytes
+  pub view-absent : (kind today : ℕ) (c : List ℕ) → Bytes c → (vs : Values) → Conforms kind today vs c → (i t : ℕ) (o : Bool) → rowAt kind i ≡ Holds t o
+      → getD vs i none ≡ none → (at : ℕ × ℕ) (number place : ℕ) (part : ℕ × ℕ) (bytes : List ℕ) → Views kind today c t at number place part bytes
+      → (number ≡ numberOf NoElement) × (bytes ≡ [])
+  pub view-foreign : (kind today : ℕ) (c : List ℕ) → Bytes c → (vs : Values) → Conforms kind today vs c → (t : ℕ) → ((i : ℕ) (o : Bool) → rowAt kind i ≡ Holds t o → ⊥)
+      → (at : ℕ × ℕ) (number place : ℕ) (part : ℕ × ℕ) (bytes : List ℕ) → Views kind today c t at number place part bytes
+      → (number ≡ numberOf NoElement) × (bytes ≡ [])
+  -- a FASC-N alone: decoded exactly when there are nine numbers in range whose bytes these are; there and back
+  pub decodes-when : (s : List ℕ) → Bytes s → (r : Decoded) → Decodes s r → (r .number ≡ 0) ↔ IsFascn s
+  pub encode-then-decode : (n : Numbers) (before after : List ℕ) → Encodes n before after 0 → (r : Decoded) → Decodes (take 25 after) r
+      → (r .number ≡ 0) × (r .numbers ≡ n)
+  pub decode-then-encode : (s : List ℕ) → Bytes s → (r : Decoded) → Decodes s r → r .number ≡ 0 → (before after : List ℕ) (number : ℕ)
+      → Encodes (r .numbers) before after number → 25 ≤ length before → (number ≡ 0) × (take 25 after ≡ s)
+
+-- ---- Demand 3. "Replace the personal values of a conforming container by any others of the same lengths that meet the rules: under the same date the desk
+-- report is the same in every byte. Two refused containers of one kind and length, same date, same broken rule at the same place, get the same report.
+-- Conversely, two conforming containers with equal reports have the same kind, tags, lengths and open values. All for any earlier contents of the report
+-- room (at least 512 bytes)."
+
+pub record Demand3 : Type 0 where
+  -- "Personal" is whatever is neither in the shape (which rows are there, and their lengths) nor among the open values
+  pub nothing-personal : (kind today : ℕ) (vs ws : Values) (c d : List ℕ) → Bytes c → Bytes d → Conforms kind today vs c → Conforms kind today ws d
+      → shape vs ≡ shape ws → openOf kind vs ≡ openOf kind ws
+      → (before₁ before₂ after₁ after₂ : List ℕ) (r₁ r₂ : Done) → length before₁ ≡ length before₂
+      → Reports kind today c before₁ after₁ r₁ → Reports kind today d before₂ after₂ r₂ → (r₁ ≡ r₂) × (after₁ ≡ after₂)
+  pub nothing-of-refused : (kind today : ℕ) (c d : List ℕ) (v : Verdict) → Checks kind today c v → Checks kind today d v → (v .number ≡ 0 → ⊥) → length c ≡ length d
+      → (before₁ before₂ after₁ after₂ : List ℕ) (r₁ r₂ : Done) → length before₁ ≡ length before₂
+      → Reports kind today c before₁ after₁ r₁ → Reports kind today d before₂ after₂ r₂ → (r₁ ≡ r₂) × (after₁ ≡ after₂)
+  pub conversely : (k t l u : ℕ) (vs ws : Values) (c d : List ℕ) → Bytes c → Bytes d → Conforms k t vs c → Conforms l u ws d
+      → (before₁ before₂ after : List ℕ) (r₁ r₂ : Done) → 512 ≤ length before₁ → 512 ≤ length before₂
+      → Reports k t c before₁ after r₁ → Reports l u d before₂ after r₂
+      → (k ≡ l) × (t ≡ u) × (shape vs ≡ shape ws) × (openOf k vs ≡ openOf k ws)
+  -- no report is cut off: it is the whole text, of at most 512 bytes, and zeros behind it
+  pub whole-text : (kind today : ℕ) (c : List ℕ) → Bytes c → IsKind kind → IsDate today → length c ≤ largest
+      → (before after : List ℕ) (r : Done) → 512 ≤ length before → Reports kind today c before after r
+      → (r .number ≡ 0) × (r .length ≤ 512) × (after ≡ filled (reportText kind today (length c) (parsed kind today c)) (length before))
+
+-- ---- "For each public call the contract determines number, place, returned part and each byte of lent room, on every input and every refusal. Any two
+-- results that satisfy it are shown equal." Rooms of one length may have held anything before. (A returned part has a block, an offset and bytes; the ghost
+-- name of its reference is no value, and is left open.)
+
+pub record Settled : Type 0 where
+  pub one-check : (kind today : ℕ) (c : List ℕ) (r₁ r₂ : Verdict) → Checks kind today c r₁ → Checks kind today c r₂ → r₁ ≡ r₂
+  pub one-read : (kind today : ℕ) (c before₁ before₂ after₁ after₂ : List ℕ) (r₁ r₂ : Done) → length before₁ ≡ length before₂
+      → Reads kind today c before₁ after₁ r₁ → Reads kind today c before₂ after₂ r₂ → (r₁ ≡ r₂) × (after₁ ≡ after₂)
+  pub one-write : (kind today : ℕ) (s before₁ before₂ after₁ after₂ : List ℕ) (r₁ r₂ : Done) → length before₁ ≡ length before₂
+      → Writes kind today s before₁ after₁ r₁ → Writes kind today s before₂ after₂ r₂ → (r₁ ≡ r₂) × (after₁ ≡ after₂)
+  pub one-view : (kind today : ℕ) (c : List ℕ) (tag : ℕ) (at : ℕ × ℕ) (n₁ n₂ p₁ p₂ : ℕ) (part₁ part₂ : ℕ × ℕ) (bytes₁ bytes₂ : List ℕ)
+      → Views kind today c tag at n₁ p₁ part₁ bytes₁ → Views kind today c tag at n₂ p₂ part₂ bytes₂
+      → (n₁ ≡ n₂) × (p₁ ≡ p₂) × (part₁ ≡ part₂) × (bytes₁ ≡ bytes₂)
+  pub one-report : (kind today : ℕ) (c before₁ before₂ after₁ after₂ : List ℕ) (r₁ r₂ : Done) → length before₁ ≡ length before₂
+      → Reports kind today c before₁ after₁ r₁ → Reports kind today c before₂ after₂ r₂ → (r₁ ≡ r₂) × (after₁ ≡ after₂)
+  pub one-decode : (s : List ℕ) (r₁ r₂ : Decoded) → Decodes s r₁ → Decodes s r₂ → r₁ ≡ r₂
+  pub one-encode : (n : Numbers) (before₁ before₂ after₁ after₂ : List ℕ) (k₁ k₂ : ℕ) → length before₁ ≡ length before₂
+      → Encodes n before₁ after₁ k₁ → Encodes n before₂ after₂ k₂ → (k₁ ≡ k₂) × (after₁ ≡ after₂)
