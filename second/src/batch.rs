@@ -1,4 +1,4 @@
-//! The batch format: records in, answers out, tally and comparison.
+//! The batch format: calls as records and as lines, their answers as lines, and how often each number is answered.
 
 use crate::{card, report, values};
 use std::collections::BTreeMap;
@@ -200,55 +200,6 @@ impl Record {
         };
         Answer { number, place, length, payload }
     }
-
-    /// How many bytes follow an answer to this record that says `length`.
-    fn payload_bytes(&self, length: u64) -> usize {
-        match self.call {
-            Call::Check => 0,
-            Call::View => length.min(BYTES_MAX as u64) as usize,
-            Call::FascnDecode => 72,
-            Call::Read | Call::Write | Call::Report | Call::FascnEncode => self.room,
-        }
-    }
-}
-
-impl Answer {
-    pub fn write_to(&self, out: &mut impl Write) -> io::Result<()> {
-        let mut head = [0u8; 24];
-        head[..8].copy_from_slice(&self.number.to_be_bytes());
-        head[8..16].copy_from_slice(&self.place.to_be_bytes());
-        head[16..].copy_from_slice(&self.length.to_be_bytes());
-        out.write_all(&head)?;
-        out.write_all(&self.payload)
-    }
-
-    /// The answer to this record, or none if the input ends before it or inside it.
-    fn read_from(input: &mut impl Read, record: &Record) -> io::Result<Option<Answer>> {
-        let cut_short = |error: io::Error| match error.kind() {
-            io::ErrorKind::UnexpectedEof | io::ErrorKind::InvalidData => Ok(None),
-            _ => Err(error),
-        };
-        let mut head = [0u8; 24];
-        match read_all_or_none(input, &mut head) {
-            Ok(true) => (),
-            Ok(false) => return Ok(None),
-            Err(error) => return cut_short(error),
-        }
-        let length = u64_at(&head, 16);
-        let mut payload = vec![0; record.payload_bytes(length)];
-        if let Err(error) = input.read_exact(&mut payload) {
-            return cut_short(error);
-        }
-        Ok(Some(Answer { number: u64_at(&head, 0), place: u64_at(&head, 8), length, payload }))
-    }
-}
-
-/// Answers every record of a batch.
-pub fn expect(input: &mut impl Read, out: &mut impl Write) -> io::Result<()> {
-    while let Some(record) = Record::read_from(input)? {
-        record.answer().write_to(out)?;
-    }
-    Ok(())
 }
 
 /// The numbers of 01's table that can occur.
@@ -266,74 +217,4 @@ pub fn tally(input: &mut impl Read, out: &mut impl Write) -> io::Result<Vec<u64>
         writeln!(out, "{} {} {}", call.name(), number, count)?;
     }
     Ok(can_occur().filter(|&number| counts.keys().all(|key| key.1 != number)).collect())
-}
-
-fn hex(bytes: &[u8]) -> String {
-    const SHOWN: usize = 2_000;
-    let mut out: String = bytes.iter().take(SHOWN).map(|byte| format!("{:02X}", byte)).collect();
-    if bytes.len() > SHOWN {
-        out.push_str(&format!("... ({} bytes)", bytes.len()));
-    }
-    out
-}
-
-fn show_answer(name: &str, answer: &Option<Answer>, out: &mut impl Write) -> io::Result<()> {
-    match answer {
-        None => writeln!(out, "  {}: missing or cut short", name),
-        Some(a) => writeln!(
-            out,
-            "  {}: number {} place {} length {} payload {}",
-            name,
-            a.number,
-            a.place,
-            a.length,
-            hex(&a.payload)
-        ),
-    }
-}
-
-/// Compares two files of answers to a batch, shows the first differing records, and gives how
-/// many records there are and how many differ.
-pub fn compare(
-    expected: &mut impl Read,
-    got: &mut impl Read,
-    batch: &mut impl Read,
-    out: &mut impl Write,
-) -> io::Result<(u64, u64)> {
-    const SHOWN: u64 = 5;
-    let (mut records, mut different) = (0, 0);
-    while let Some(record) = Record::read_from(batch)? {
-        let one = Answer::read_from(expected, &record)?;
-        let other = Answer::read_from(got, &record)?;
-        if one.is_none() || one != other {
-            different += 1;
-            if different <= SHOWN {
-                writeln!(
-                    out,
-                    "record {}: {} kind {} today {} tag {:X} room {} fill {:02X} bytes({}) {}",
-                    records,
-                    record.call.name(),
-                    record.kind,
-                    record.today,
-                    record.tag,
-                    record.room,
-                    record.fill,
-                    record.bytes.len(),
-                    hex(&record.bytes)
-                )?;
-                show_answer("expected", &one, out)?;
-                show_answer("got", &other, out)?;
-            }
-        }
-        records += 1;
-    }
-    for (name, more) in [("EXPECTED", read_all_or_none(expected, &mut [0])?), ("GOT", read_all_or_none(got, &mut [0])?)]
-    {
-        if more {
-            writeln!(out, "{} goes on after the last record", name)?;
-            different += 1;
-        }
-    }
-    writeln!(out, "{} records, {} different", records, different)?;
-    Ok((records, different))
 }

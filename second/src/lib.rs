@@ -7,6 +7,7 @@ pub mod batch;
 pub mod card;
 pub mod generate;
 pub mod report;
+pub mod samples;
 pub mod values;
 
 pub use card::{check, read, view, write};

@@ -1,6 +1,6 @@
-//! The batch format and the comparison.
+//! The batch format.
 
-use second::batch::{compare, expect, tally, Call, Record};
+use second::batch::{tally, Call, Record};
 use second::generate::Inputs;
 
 fn batch(seed: u64, count: usize) -> Vec<u8> {
@@ -10,16 +10,6 @@ fn batch(seed: u64, count: usize) -> Vec<u8> {
         inputs.record().write_to(&mut out).unwrap();
     }
     out
-}
-
-fn answers(batch: &[u8]) -> Vec<u8> {
-    let mut out = Vec::new();
-    expect(&mut &batch[..], &mut out).unwrap();
-    out
-}
-
-fn differences(expected: &[u8], got: &[u8], batch: &[u8]) -> (u64, u64) {
-    compare(&mut &expected[..], &mut &got[..], &mut &batch[..], &mut std::io::sink()).unwrap()
 }
 
 #[test]
@@ -61,23 +51,6 @@ fn one_record_in_bytes() {
     wanted.extend([0, 0, 0, 0, 0, 0, 0x5F, 0x2F]);
     wanted.extend([0, 0, 0, 5, 0xAA, 0, 0, 0, 3, 1, 2, 3]);
     assert_eq!(out, wanted);
-}
-
-#[test]
-fn comparison_finds_differences() {
-    let batch = batch(3, 2_000);
-    let good = answers(&batch);
-    assert_eq!(differences(&good, &good, &batch), (2_000, 0));
-    for at in (0..24).chain([good.len() / 2, good.len() - 1]) {
-        let mut wrong = good.clone();
-        wrong[at] ^= 1;
-        assert!(differences(&good, &wrong, &batch).1 > 0, "at {}", at);
-    }
-    assert!(differences(&good, &good[..good.len() - 1], &batch).1 > 0);
-    assert!(differences(&good[..good.len() - 1], &good[..good.len() - 1], &batch).1 > 0);
-    let mut longer = good.clone();
-    longer.push(0);
-    assert!(differences(&good, &longer, &batch).1 > 0);
 }
 
 #[test]
