@@ -1,5 +1,5 @@
 -- ELEMENTS, a row more: what the lines and their count become. Assumes nothing.
-use Prim.Native.Nat.{ℕ, suc, _+_, _-_, _≤_}
+use Prim.Native.Nat.{ℕ, suc, _+_, _-_}
 use mathlib.Core.Path.{_≡_, refl, ap, _∙_}
 use mathlib.Core.Bool.{Bool}
 use mathlib.Core.Option.{Option, none, some}
@@ -10,13 +10,11 @@ use lib.ListN.{length, drop, length-append}
 use borrow.Rule.Slice.PartMut.{midOf, putMid}
 use Rattle.laws.specs.Layout.{part}
 use Rattle.laws.specs.Room.{Put}
-use Rattle.laws.proofs.Layouts.{part-long}
 use Rattle.laws.proofs.Rooms.{then, nothing}
-use Rattle.texts.specs.Text.{hexTag}
 use Rattle.kinds.specs.Tables.{Table, table, first, rowAt}
 use Rattle.kinds.specs.declared.Place.the-variants.{Holds}
 use Rattle.container.specs.Container.{Values}
-use Rattle.report.specs.Report.{number, elementLine, elementLines, elementCount}
+use Rattle.report.specs.Report.{elementLine, elementLines, elementCount}
 
 -- ---- how many
 
@@ -74,11 +72,10 @@ pub lined-none : (kind : ℕ) {row n : ℕ} {d e : List ℕ} (vs : Values) → L
 lined-none kind {row} vs w = (longer none row vs (w .0), rw (lines-none (table kind) vs) (w .1))
 
 -- the value that lies between two offsets
-pub lined-some : (kind : ℕ) {row m n : ℕ} {d e ys : List ℕ} (c : List ℕ) (from to : ℕ) {tag : ℕ} {optional : Bool} → from ≤ to → to ≤ length c → rowAt kind row ≡ Holds tag optional
-    → Put ((hexTag tag ++ 32 ∷ []) ++ number (to - from) 10) (midOf m (length e - m) e) ys n
+pub lined-some : (kind : ℕ) {row m n : ℕ} {d e ys : List ℕ} (c : List ℕ) (from to : ℕ) {tag : ℕ} {optional : Bool} → rowAt kind row ≡ Holds tag optional
+    → Put (elementLine tag (part c from (to - from))) (midOf m (length e - m) e) ys n
     → (vs : Values) → Lined kind row d e m vs → Lined kind (row + 1) d (putMid m (length e - m) e ys) (m + n) (vs ++ (some (part c from (to - from)) ∷ []))
-lined-some kind {row} c from to h k q p vs w =
+lined-some kind {row} c from to q p vs w =
     let v = part c from (to - from) in
-    let l : length v ≡ to - from = part-long c from (to - from) (omega arith) in
     let i = ap (λ (n : ℕ). rowAt kind n) (w .0) ∙ q in
-    (longer (some v) row vs (w .0), rw (lines-some (table kind) vs v i, l) (then (w .1) p))
+    (longer (some v) row vs (w .0), rw (lines-some (table kind) vs v i) (then (w .1) p))

@@ -5,7 +5,7 @@ ghost use mathlib.Core.List.{[], _∷_, _++_};
 ghost use Prim.Native.Nat.{ℕ};
 ghost use lib.ListN.{length};
 ghost use Rattle.laws.specs.Room.{Put};
-ghost use Rattle.texts.specs.Text.{ascii, hexTag};
+ghost use Rattle.texts.specs.Text.{ascii};
 ghost use Rattle.verdicts.specs.Verdicts.{numberOf};
 ghost use Rattle.verdicts.specs.Output.{Leaves};
 ghost use Rattle.kinds.specs.Tables.{table};
@@ -14,7 +14,7 @@ ghost use Rattle.container.specs.Reading.{parsed};
 ghost use Rattle.fascn.specs.Reading.{decoded};
 ghost use Rattle.dates.specs.Date.{dateOf};
 ghost use Rattle.report.specs.Open.{holder, card, policy, issuer, agencyOf, systemOf, inHeader, openOf};
-ghost use Rattle.report.specs.Report.{kindName, number, digitsLine, cardPart, elementLines, elementCount, elementsPart, openPart, reportText};
+ghost use Rattle.report.specs.Report.{kindName, number, digitsLine, cardPart, elementLine, elementLines, elementCount, elementsPart, openPart, reportText};
 ghost use Rattle.report.specs.Calls.{reportOutput};
 ghost use Rattle.report.specs.Writers.{Writes, tagged, dayNumber};
 use container::Found;
@@ -106,13 +106,20 @@ fn element_count(kind: u64, c: &[u8]) -> u64
     count
 }
 
+// All that a line tells of a value: how many bytes it has.
+fn told(value: &[u8]) -> u64
+    ensures { λ r. ⌜ r ≡ length (now (value .entry)) ⌝ }
+{
+    value.len() as u64
+}
+
 // "tag in hex, length"
-fn put_element(tag: u64, size: usize, out: &mut [u8]) -> usize
-    ensures { λ r. ⌜ Put ((hexTag tag ++ 32 ∷ []) ++ number size 10) (now (out .entry)) (now (out .exit)) r ⌝ }
+fn put_element(tag: u64, value: &[u8], out: &mut [u8]) -> usize
+    ensures { λ r. ⌜ Put (elementLine tag (now (value .entry))) (now (out .entry)) (now (out .exit)) r ⌝ }
 {
     let mut at = texts::put_tag(tag, out);
     at += room::put_byte(b' ', &mut out[at..]);
-    at + put_number(size as u64, b'\n', &mut out[at..])
+    at + put_number(told(value), b'\n', &mut out[at..])
 }
 
 // A line for each element that is there.
@@ -125,7 +132,7 @@ fn put_lines(kind: u64, c: &[u8], out: &mut [u8]) -> usize
     while let Place::Holds(tag, _) = kinds::row_at(kind, row) {
         row += 1;
         if let Found::At(start, end) = container::found_at(kind, tag, c, from) {
-            at += put_element(tag, end - start, &mut out[at..]);
+            at += put_element(tag, &c[start..end], &mut out[at..]);
             from = end;
         }
     }

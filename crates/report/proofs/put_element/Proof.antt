@@ -7,9 +7,10 @@ use Rattle.report.proofs.put_element.Tie as tie
 returns : tie.Need-returns
 returns c =
     let c3 = c .before .before in
-    let c2 = c3 .before .before .before .before in
+    let t = c3 .before .before in
+    let c2 = t .before .before .before in
     let c1 = c2 .before .before .before .before in
-    then (then (c1 .put-tag .ensures) (c2 .put-byte .ensures)) (c3 .put-number .ensures)
+    then (then (c1 .put-tag .ensures) (c2 .put-byte .ensures)) (rw (t .told .ensures) at (c3 .put-number .ensures))
 
 pub put-element-spec : {M : Type 1} → statement M
 put-element-spec =
@@ -21,6 +22,7 @@ put-element-spec =
     (λ c. search needs)
     (λ c κs. search needs)
     (λ c. search needs)
+    (λ c κs. search needs)
     (λ c. search needs)
     (λ c. search needs)
     (λ c. search needs)

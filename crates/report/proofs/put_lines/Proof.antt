@@ -36,15 +36,21 @@ loop-holds : tie.Need-loop-holds Inv-loop μ-loop
 loop-holds c = (omega arith, refl, omega arith, none-passed _ (c .first-element .ensures) (lined-start (c .before .before .before .args .kind) _))
 
 sub-put-element : tie.Need-sub-put-element Inv-loop μ-loop
-sub-put-element c = told c .1
+sub-put-element c = omega (arith, told c)
+
+part-put-element-start : tie.Need-part-put-element-start Inv-loop μ-loop
+part-put-element-start c = omega (arith, told c)
+
+part-put-element-end : tie.Need-part-put-element-end Inv-loop μ-loop
+part-put-element-end c = omega (arith, told c)
 
 loop-less : tie.Need-loop-less Inv-loop μ-loop
-loop-less c = omega (arith, few (c .before .before .before .before .before .before .before .before))
+loop-less c = omega (arith, few (c .before .before .before .before .before .before .before .before .before))
 
 loop-again : tie.Need-loop-again Inv-loop μ-loop
 loop-again c =
     let p = c .before .before in
-    let t = p .before .before in
+    let t = p .before .before .before in
     let k = t .before .before .before .before in
     let l = k .before .before .before .before in
     let a = l .before .before .before .before .args in
@@ -54,7 +60,7 @@ loop-again c =
       search needs,
       search needs,
       value-passed (l .loop .inv .3) (held k) (sym (t .before .before .before .found-at .ensures .0) ∙ s .given .1)
-          (lined-some (a .kind) (a .c .now) (s .given .0 .0) (s .given .0 .1 .0) (told t .1) (told t .2) (held k) (p .put-element .ensures)),
+          (lined-some (a .kind) (a .c .now) (s .given .0 .0) (s .given .0 .1 .0) (held k) (p .put-element .ensures)),
     )
 
 loop-less-2 : tie.Need-loop-less-2 Inv-loop μ-loop
@@ -93,6 +99,8 @@ put-lines-spec =
     (λ c κs. search needs)
     (λ c. search needs)
     sub-put-element
+    part-put-element-start
+    part-put-element-end
     (λ c. search needs)
     (λ c. search needs)
     (λ c. search needs)
