@@ -1,0 +1,125 @@
+// desk KIND TODAY FILE: all seven calls on the container in a file. It prints the desk report, an empty line, and then what
+// each of the other calls says. examples/rust/desk.rs prints the same text.
+//
+// What it prints of a card is open by the desk's rules: tags, lengths, agency and system. The sheet, and the other seven
+// numbers of a FASC-N, are personal, so it only says that they came back.
+//
+// Exit status: 0, also for a container that breaks a rule; 1 if the report is refused or the calls disagree; 2 for bad words.
+#include <inttypes.h>
+#include <stdio.h>
+#include <stdlib.h>
+#include <string.h>
+
+#include "prosianek.h"
+
+// The element of each kind that is viewed.
+static const uint64_t tags[] = {
+    [PROSIANEK_CCC] = 0xF5,      [PROSIANEK_CHUID] = 0x30,    [PROSIANEK_DISCOVERY] = 0x5F2F, [PROSIANEK_PRINTED] = 0x06,
+    [PROSIANEK_SECURITY] = 0xBA, [PROSIANEK_FINGERS] = 0xBC, [PROSIANEK_FACE] = 0xBC,
+};
+
+// The rooms are as large as any answer, so that no call here is refused for its room. The container's has one byte more: a
+// file that is too large is then refused by the calls, and not cut here.
+static uint8_t container[PROSIANEK_LARGEST_CONTAINER + 1];
+static uint8_t sheet[PROSIANEK_SHEET_ROOM];
+static uint8_t written[PROSIANEK_LARGEST_CONTAINER];
+static uint8_t report[PROSIANEK_REPORT_ROOM];
+
+// A word of digits. strtoull alone would take signs and spaces too.
+static int number_of(const char *word, uint64_t *number) {
+    size_t digits = strspn(word, "0123456789");
+    if (digits == 0 || digits > 19 || word[digits] != '\0') return 0;
+    *number = strtoull(word, NULL, 10);
+    return 1;
+}
+
+static void refused(const char *call, uint64_t number, uint64_t place) {
+    printf("%s: number %" PRIu64 ", place %" PRIu64 "\n", call, number, place);
+}
+
+// Decodes a FASC-N and encodes it again; whether it came back.
+static int there_and_back(const uint8_t *fascn, size_t size) {
+    uint64_t numbers[9];
+    uint8_t room[PROSIANEK_FASCN_BYTES];
+    uint64_t number = prosianek_fascn_decode(fascn, size, numbers);
+    if (number != PROSIANEK_DONE) {
+        refused("decode", number, 0);
+        return 0;
+    }
+    printf("decode: agency %04" PRIu64 ", system %04" PRIu64 "\n", numbers[0], numbers[1]);
+    number = prosianek_fascn_encode(numbers, room, sizeof room);
+    if (number != PROSIANEK_DONE) {
+        refused("encode", number, 0);
+        return 0;
+    }
+    if (size != sizeof room || memcmp(room, fascn, sizeof room) != 0) {
+        printf("encode: the FASC-N did not come back\n");
+        return 0;
+    }
+    printf("encode: the FASC-N came back byte for byte\n");
+    return 1;
+}
+
+int main(int count, char **words) {
+    uint64_t kind, today;
+    if (count != 4 || !number_of(words[1], &kind) || !number_of(words[2], &today)) {
+        fprintf(stderr, "desk KIND TODAY FILE\n");
+        return 2;
+    }
+    FILE *file = fopen(words[3], "rb");
+    if (file == NULL) {
+        fprintf(stderr, "the file '%s' cannot be read\n", words[3]);
+        return 2;
+    }
+    size_t size = fread(container, 1, sizeof container, file);
+    fclose(file);
+
+    uint64_t length;
+    uint64_t number = prosianek_report(kind, today, container, size, report, sizeof report, &length);
+    if (number != PROSIANEK_DONE) {
+        printf("refused %" PRIu64 "\n", number);
+        return 1;
+    }
+    fwrite(report, 1, length, stdout);
+    printf("\n");
+
+    // A container that breaks a rule has no values to read or view: these calls then answer as the check does.
+    uint64_t where;
+    uint64_t verdict = prosianek_check(kind, today, container, size, &where);
+    if (verdict == PROSIANEK_DONE)
+        printf("check: conforms\n");
+    else
+        refused("check", verdict, where);
+
+    int off = 0;
+    uint64_t place;
+    number = prosianek_read(kind, today, container, size, sheet, sizeof sheet, &place, &length);
+    if (number != verdict || place != where) off = 1;
+    if (number != PROSIANEK_DONE) {
+        refused("read", number, place);
+    } else {
+        printf("read: a sheet of %" PRIu64 " bytes\n", length);
+        number = prosianek_write(kind, today, sheet, length, written, sizeof written, &place, &length);
+        if (number != PROSIANEK_DONE) {
+            refused("write", number, place);
+            off = 1;
+        } else if (length == size && memcmp(written, container, size) == 0) {
+            printf("write: the container came back byte for byte\n");
+        } else {
+            printf("write: the container did not come back\n");
+            off = 1;
+        }
+    }
+
+    // The kind is one of the seven here, or the report would have been refused.
+    uint64_t offset;
+    number = prosianek_view(kind, today, container, size, tags[kind], &place, &offset, &length);
+    if (number != verdict || place != where) off = 1;
+    if (number != PROSIANEK_DONE) {
+        refused("view", number, place);
+    } else {
+        printf("view: tag %02" PRIX64 " has %" PRIu64 " bytes at %" PRIu64 "\n", tags[kind], length, offset);
+        if (kind == PROSIANEK_CHUID && !there_and_back(container + offset, length)) off = 1;
+    }
+    return off;
+}

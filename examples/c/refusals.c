@@ -1,0 +1,186 @@
+// The refusals, across the border: each call answers its number, and leaves the room that it was lent all zeros, whatever
+// stood there before. tests/linking runs it. It prints a line for each answer that is not as it should be, and then the
+// count of calls; the exit status is 0 only if all are right.
+#include <inttypes.h>
+#include <stdio.h>
+#include <string.h>
+
+#include "prosianek.h"
+
+enum { TODAY = 20260301, STALE = 0xAA };
+
+// A card holder identifier that conforms: the desk's case R, samples/chuid.bin.
+static const uint8_t chuid[61] = {
+    0x53, 0x3B, 0x30, 0x19, 0xD4, 0x11, 0x92, 0x58, 0x21, 0x0C, 0x2C, 0x10, 0x84, 0x21, 0xAD, 0xA1,
+    0x68, 0x58, 0x21, 0x08, 0x42, 0x10, 0x84, 0x3C, 0x84, 0x11, 0x92, 0x43, 0xEB, 0x34, 0x10, 0x01,
+    0x01, 0x01, 0x01, 0x01, 0x01, 0x40, 0x00, 0x80, 0x01, 0x01, 0x01, 0x01, 0x01, 0x01, 0x01, 0x35,
+    0x08, 0x32, 0x30, 0x33, 0x30, 0x30, 0x31, 0x33, 0x31, 0x3E, 0x00, 0xFE, 0x00,
+};
+enum { FASCN_AT = 4, SHEET_BYTES = 67 };
+
+static const uint8_t too_large[PROSIANEK_LARGEST_CONTAINER + 1];
+
+// What the calls are lent. The room is longer than any size that is lent of it, so that a byte written behind it shows.
+static uint8_t room[1024];
+static uint64_t place, offset, length, numbers[9];
+
+static int calls, bad;
+
+// Before each call: something stale in everything that is lent.
+static void stale(void) {
+    memset(room, STALE, sizeof room);
+    place = offset = length = STALE;
+    for (int i = 0; i < 9; i++) numbers[i] = STALE;
+}
+
+static void wrong(const char *what, const char *how) {
+    printf("%s: %s\n", what, how);
+    bad = 1;
+}
+
+static void answers(const char *what, uint64_t number, uint64_t expected) {
+    calls++;
+    if (number == expected) return;
+    printf("%s: number %" PRIu64 ", expected %" PRIu64 "\n", what, number, expected);
+    bad = 1;
+}
+
+// After a call that was lent `size` bytes: `used` bytes of output, zeros up to the size, and nothing touched behind it.
+static void leaves(const char *what, size_t used, size_t size) {
+    for (size_t i = used; i < size; i++)
+        if (room[i] != 0) {
+            wrong(what, "the room has something else than zeros");
+            break;
+        }
+    for (size_t i = size; i < sizeof room; i++)
+        if (room[i] != STALE) {
+            wrong(what, "a byte behind the room was written");
+            break;
+        }
+}
+
+static void check(const char *what, uint64_t kind, uint64_t today, const uint8_t *c, size_t size, uint64_t expected) {
+    stale();
+    answers(what, prosianek_check(kind, today, c, size, &place), expected);
+    if (place != 0) wrong(what, "a place");
+}
+
+static void read(const char *what, uint64_t kind, uint64_t today, const uint8_t *c, size_t size, size_t lent,
+                 uint64_t expected) {
+    stale();
+    answers(what, prosianek_read(kind, today, c, size, room, lent, &place, &length), expected);
+    if (place != 0 || length != 0) wrong(what, "a place or a length");
+    leaves(what, 0, lent);
+}
+
+static void write(const char *what, uint64_t kind, uint64_t today, const uint8_t *s, size_t size, size_t lent,
+                  uint64_t expected) {
+    stale();
+    answers(what, prosianek_write(kind, today, s, size, room, lent, &place, &length), expected);
+    if (place != 0 || length != 0) wrong(what, "a place or a length");
+    leaves(what, 0, lent);
+}
+
+static void view(const char *what, uint64_t kind, uint64_t today, const uint8_t *c, size_t size, uint64_t tag,
+                 uint64_t expected) {
+    stale();
+    answers(what, prosianek_view(kind, today, c, size, tag, &place, &offset, &length), expected);
+    if (place != 0 || offset != 0 || length != 0) wrong(what, "a place, an offset or a length");
+}
+
+static void report(const char *what, uint64_t kind, uint64_t today, const uint8_t *c, size_t size, size_t lent,
+                   uint64_t expected) {
+    stale();
+    answers(what, prosianek_report(kind, today, c, size, room, lent, &length), expected);
+    if (length != 0) wrong(what, "a length");
+    leaves(what, 0, lent);
+}
+
+static void decode(const char *what, const uint8_t *bytes, size_t size) {
+    stale();
+    answers(what, prosianek_fascn_decode(bytes, size, numbers), PROSIANEK_BAD_FASCN);
+    for (int i = 0; i < 9; i++)
+        if (numbers[i] != 0) wrong(what, "a number that is not 0");
+}
+
+static void encode(const char *what, const uint64_t n[9], size_t lent, uint64_t expected) {
+    stale();
+    answers(what, prosianek_fascn_encode(n, room, lent), expected);
+    leaves(what, 0, lent);
+}
+
+int main(void) {
+    // A sheet to write from. This call succeeds, and leaves zeros after the sheet.
+    static uint8_t sheet[SHEET_BYTES + 1];
+    stale();
+    answers("read", prosianek_read(PROSIANEK_CHUID, TODAY, chuid, sizeof chuid, room, 100, &place, &length), PROSIANEK_DONE);
+    if (place != 0 || length != SHEET_BYTES) wrong("read", "not the sheet's length");
+    leaves("read", SHEET_BYTES, 100);
+    memcpy(sheet, room, SHEET_BYTES);
+
+    static const uint64_t kinds[] = {0, 8, UINT64_MAX};
+    for (int i = 0; i < 3; i++) {
+        check("check, bad kind", kinds[i], TODAY, chuid, sizeof chuid, PROSIANEK_UNKNOWN_KIND);
+        read("read, bad kind", kinds[i], TODAY, chuid, sizeof chuid, 100, PROSIANEK_UNKNOWN_KIND);
+        write("write, bad kind", kinds[i], TODAY, sheet, SHEET_BYTES, 100, PROSIANEK_UNKNOWN_KIND);
+        view("view, bad kind", kinds[i], TODAY, chuid, sizeof chuid, 0x30, PROSIANEK_UNKNOWN_KIND);
+        report("report, bad kind", kinds[i], TODAY, chuid, sizeof chuid, 512, PROSIANEK_UNKNOWN_KIND);
+    }
+
+    static const uint64_t dates[] = {0, 20260229, 100000101, UINT64_MAX};
+    for (int i = 0; i < 4; i++) {
+        check("check, bad date", PROSIANEK_CHUID, dates[i], chuid, sizeof chuid, PROSIANEK_NO_DATE);
+        read("read, bad date", PROSIANEK_CHUID, dates[i], chuid, sizeof chuid, 100, PROSIANEK_NO_DATE);
+        write("write, bad date", PROSIANEK_CHUID, dates[i], sheet, SHEET_BYTES, 100, PROSIANEK_NO_DATE);
+        view("view, bad date", PROSIANEK_CHUID, dates[i], chuid, sizeof chuid, 0x30, PROSIANEK_NO_DATE);
+        report("report, bad date", PROSIANEK_CHUID, dates[i], chuid, sizeof chuid, 512, PROSIANEK_NO_DATE);
+    }
+
+    // Rooms one byte too small, and of no bytes at all: the pointer is not null there either.
+    report("report, a room of 511", PROSIANEK_CHUID, TODAY, chuid, sizeof chuid, 511, PROSIANEK_SMALL_ROOM);
+    report("report, no room", PROSIANEK_CHUID, TODAY, chuid, sizeof chuid, 0, PROSIANEK_SMALL_ROOM);
+    read("read, a small room", PROSIANEK_CHUID, TODAY, chuid, sizeof chuid, SHEET_BYTES - 1, PROSIANEK_SMALL_ROOM);
+    read("read, no room", PROSIANEK_CHUID, TODAY, chuid, sizeof chuid, 0, PROSIANEK_SMALL_ROOM);
+    write("write, a small room", PROSIANEK_CHUID, TODAY, sheet, SHEET_BYTES, sizeof chuid - 1, PROSIANEK_SMALL_ROOM);
+    write("write, no room", PROSIANEK_CHUID, TODAY, sheet, SHEET_BYTES, 0, PROSIANEK_SMALL_ROOM);
+
+    // A container of no bytes has no outer tag; one of 32,769 is too large.
+    check("check, no bytes", PROSIANEK_CHUID, TODAY, chuid, 0, PROSIANEK_OUTER_TAG);
+    check("check, 32,769 bytes", PROSIANEK_CHUID, TODAY, too_large, sizeof too_large, PROSIANEK_LARGE_CONTAINER);
+    read("read, 32,769 bytes", PROSIANEK_CHUID, TODAY, too_large, sizeof too_large, 100, PROSIANEK_LARGE_CONTAINER);
+    view("view, 32,769 bytes", PROSIANEK_CHUID, TODAY, too_large, sizeof too_large, 0x30, PROSIANEK_LARGE_CONTAINER);
+    report("report, 32,769 bytes", PROSIANEK_CHUID, TODAY, too_large, sizeof too_large, 512, PROSIANEK_LARGE_CONTAINER);
+
+    write("write, a sheet cut short", PROSIANEK_CHUID, TODAY, sheet, SHEET_BYTES - 1, 100, PROSIANEK_TORN_SHEET);
+    write("write, a byte left over", PROSIANEK_CHUID, TODAY, sheet, SHEET_BYTES + 1, 100, PROSIANEK_TORN_SHEET);
+    write("write, no sheet", PROSIANEK_CHUID, TODAY, sheet, 0, 100, PROSIANEK_TORN_SHEET);
+
+    // EE is optional and absent here; BC is of another kind.
+    view("view, absent", PROSIANEK_CHUID, TODAY, chuid, sizeof chuid, 0xEE, PROSIANEK_NO_ELEMENT);
+    view("view, of another kind", PROSIANEK_CHUID, TODAY, chuid, sizeof chuid, 0xBC, PROSIANEK_NO_ELEMENT);
+    view("view, no tag at all", PROSIANEK_CHUID, TODAY, chuid, sizeof chuid, UINT64_MAX, PROSIANEK_NO_ELEMENT);
+
+    // Each of the nine numbers with one digit too many; that comes before the room.
+    static const uint64_t limits[9] = {10000, 10000, 1000000, 10, 10, 10000000000, 10, 10000, 10};
+    for (int i = 0; i < 9; i++) {
+        uint64_t n[9] = {1234, 1, 5, 1, 1, 7, 1, 1234, 1};
+        n[i] = limits[i];
+        encode("encode, too large a number", n, 25, PROSIANEK_LONG_NUMBER);
+        encode("encode, too large a number, a small room", n, 24, PROSIANEK_LONG_NUMBER);
+        n[i] = limits[i] - 1;
+        encode("encode, a room of 24", n, 24, PROSIANEK_SMALL_ROOM);
+        stale();
+        answers("encode", prosianek_fascn_encode(n, room, 30), PROSIANEK_DONE);
+        leaves("encode", PROSIANEK_FASCN_BYTES, 30);
+        answers("decode", prosianek_fascn_decode(room, PROSIANEK_FASCN_BYTES, numbers), PROSIANEK_DONE);
+        if (memcmp(n, numbers, sizeof n) != 0) wrong("decode", "not the numbers that were encoded");
+    }
+
+    decode("decode, 24 bytes", chuid + FASCN_AT, 24);
+    decode("decode, 26 bytes", chuid + FASCN_AT, 26);
+    decode("decode, other bytes", chuid, 25);
+    decode("decode, no bytes", chuid, 0);
+
+    printf("%d calls\n", calls);
+    return bad;
+}

@@ -1,0 +1,137 @@
+//! desk KIND TODAY FILE: all seven calls on the container in a file. It prints the desk report, an empty line, and then what
+//! each of the other calls says. examples/c/desk.c prints the same text, and says what is printed and why no more.
+//!
+//! Exit status: 0, also for a container that breaks a rule; 1 if the report is refused or the calls disagree; 2 for bad words.
+mod prosianek;
+use prosianek::Refused;
+use std::io::Write;
+use std::process::exit;
+
+/// The element of each kind that is viewed.
+fn tag_of(kind: u64) -> u64 {
+    match kind {
+        prosianek::CCC => 0xF5,
+        prosianek::CHUID => 0x30,
+        prosianek::DISCOVERY => 0x5F2F,
+        prosianek::PRINTED => 0x06,
+        prosianek::SECURITY => 0xBA,
+        _ => 0xBC,
+    }
+}
+
+/// A word of digits. parse alone would take a plus sign too.
+fn number_of(word: &str) -> Option<u64> {
+    if word.len() > 19 || !word.bytes().all(|b| b.is_ascii_digit()) {
+        return None;
+    }
+    word.parse().ok()
+}
+
+fn refused(call: &str, r: Refused) {
+    println!("{call}: number {}, place {}", r.number, r.place);
+}
+
+fn main() {
+    let words: Vec<String> = std::env::args().collect();
+    let numbers = match words.len() {
+        4 => number_of(&words[1]).zip(number_of(&words[2])),
+        _ => None,
+    };
+    let (kind, today) = numbers.unwrap_or_else(|| {
+        eprintln!("desk KIND TODAY FILE");
+        exit(2)
+    });
+    let container = std::fs::read(&words[3]).unwrap_or_else(|_| {
+        eprintln!("the file '{}' cannot be read", words[3]);
+        exit(2)
+    });
+
+    let mut room = [0; prosianek::REPORT_ROOM];
+    match prosianek::report(kind, today, &container, &mut room) {
+        Ok(length) => std::io::stdout()
+            .write_all(&room[..length])
+            .expect("standard output takes the report"),
+        Err(r) => {
+            println!("refused {}", r.number);
+            exit(1)
+        }
+    }
+    println!();
+
+    // A container that breaks a rule has no values to read or view: these calls then answer as the check does.
+    let verdict = prosianek::check(kind, today, &container);
+    match verdict {
+        Ok(()) => println!("check: conforms"),
+        Err(r) => refused("check", r),
+    }
+
+    let mut off = false;
+    let mut sheet = vec![0; prosianek::SHEET_ROOM];
+    let read = prosianek::read(kind, today, &container, &mut sheet);
+    off |= read.map(|_| ()) != verdict;
+    match read {
+        Err(r) => refused("read", r),
+        Ok(length) => {
+            println!("read: a sheet of {length} bytes");
+            let mut written = vec![0; prosianek::LARGEST_CONTAINER];
+            match prosianek::write(kind, today, &sheet[..length], &mut written) {
+                Err(r) => {
+                    refused("write", r);
+                    off = true;
+                }
+                Ok(length) if written[..length] == container[..] => {
+                    println!("write: the container came back byte for byte")
+                }
+                Ok(_) => {
+                    println!("write: the container did not come back");
+                    off = true;
+                }
+            }
+        }
+    }
+
+    let tag = tag_of(kind);
+    let view = prosianek::view(kind, today, &container, tag);
+    off |= view.clone().map(|_| ()) != verdict;
+    match view {
+        Err(r) => refused("view", r),
+        Ok(range) => {
+            println!(
+                "view: tag {tag:02X} has {} bytes at {}",
+                range.len(),
+                range.start
+            );
+            if kind == prosianek::CHUID {
+                off |= !there_and_back(&container[range]);
+            }
+        }
+    }
+    exit(off as i32)
+}
+
+/// Decodes a FASC-N and encodes it again; whether it came back.
+fn there_and_back(fascn: &[u8]) -> bool {
+    let numbers = match prosianek::decode(fascn) {
+        Ok(numbers) => numbers,
+        Err(r) => {
+            refused("decode", r);
+            return false;
+        }
+    };
+    println!("decode: agency {:04}, system {:04}", numbers[0], numbers[1]);
+    let mut room = [0; prosianek::FASCN_BYTES];
+    match prosianek::encode(&numbers, &mut room) {
+        Err(r) => {
+            refused("encode", r);
+            false
+        }
+        Ok(()) if room[..] == *fascn => {
+            println!("encode: the FASC-N came back byte for byte");
+            true
+        }
+        Ok(()) => {
+            println!("encode: the FASC-N did not come back");
+            false
+        }
+    }
+}

@@ -1,0 +1,195 @@
+//! The seven calls of Prosianek for Rust: safe functions over include/prosianek.h, which says more of each. To use them in a
+//! project of your own, copy this file, and give rustc the folder of libcapi.a (`-L native=target/staticlib`).
+//!
+//! What C callers have to see to, Rust's references bring: they are valid and never null, and what is lent for writing
+//! overlaps nothing. So nothing is asked of a caller here, and every input gets an answer.
+#![allow(dead_code)]
+
+/// The kinds of container. The calls take any number as a kind and refuse every other with 1.
+pub const CCC: u64 = 1;
+pub const CHUID: u64 = 2;
+pub const DISCOVERY: u64 = 3;
+pub const PRINTED: u64 = 4;
+pub const SECURITY: u64 = 5;
+pub const FINGERS: u64 = 6;
+pub const FACE: u64 = 7;
+
+/// The smallest room for a report. No report is longer.
+pub const REPORT_ROOM: usize = 512;
+/// The bytes of a FASC-N.
+pub const FASCN_BYTES: usize = 25;
+/// The bytes of the largest container.
+pub const LARGEST_CONTAINER: usize = 32_768;
+/// A room of this size holds the sheet of any container.
+pub const SHEET_ROOM: usize = 32_774;
+
+/// A refusal: its number, as include/prosianek.h lists them, and the place of the first broken rule.
+#[derive(Clone, Copy, Debug, PartialEq, Eq)]
+pub struct Refused {
+    pub number: u64,
+    pub place: u64,
+}
+
+#[link(name = "capi", kind = "static")]
+extern "C" {
+    fn prosianek_check(
+        kind: u64,
+        today: u64,
+        container: *const u8,
+        size: usize,
+        place: *mut u64,
+    ) -> u64;
+    fn prosianek_read(
+        kind: u64,
+        today: u64,
+        container: *const u8,
+        size: usize,
+        sheet: *mut u8,
+        room: usize,
+        place: *mut u64,
+        length: *mut u64,
+    ) -> u64;
+    fn prosianek_write(
+        kind: u64,
+        today: u64,
+        sheet: *const u8,
+        size: usize,
+        container: *mut u8,
+        room: usize,
+        place: *mut u64,
+        length: *mut u64,
+    ) -> u64;
+    fn prosianek_view(
+        kind: u64,
+        today: u64,
+        container: *const u8,
+        size: usize,
+        tag: u64,
+        place: *mut u64,
+        offset: *mut u64,
+        length: *mut u64,
+    ) -> u64;
+    fn prosianek_report(
+        kind: u64,
+        today: u64,
+        container: *const u8,
+        size: usize,
+        room: *mut u8,
+        room_size: usize,
+        length: *mut u64,
+    ) -> u64;
+    fn prosianek_fascn_decode(bytes: *const u8, size: usize, numbers: *mut [u64; 9]) -> u64;
+    fn prosianek_fascn_encode(numbers: *const [u64; 9], room: *mut u8, size: usize) -> u64;
+}
+
+// In each unsafe block below: every pointer with its size is that of a slice, every other pointer that of a number or an
+// array of this function, and the exclusive references are distinct.
+
+fn answer<T>(number: u64, place: u64, value: T) -> Result<T, Refused> {
+    if number == 0 {
+        Ok(value)
+    } else {
+        Err(Refused { number, place })
+    }
+}
+
+/// Whether a container conforms; or the first broken rule.
+pub fn check(kind: u64, today: u64, container: &[u8]) -> Result<(), Refused> {
+    let mut place = 0;
+    let number =
+        unsafe { prosianek_check(kind, today, container.as_ptr(), container.len(), &mut place) };
+    answer(number, place, ())
+}
+
+/// Writes the value sheet of a container into the room and gives its length. On a refusal the room is all zeros, else zeros
+/// follow the sheet; so it is in all calls that are lent a room.
+pub fn read(kind: u64, today: u64, container: &[u8], sheet: &mut [u8]) -> Result<usize, Refused> {
+    let (mut place, mut length) = (0, 0);
+    let number = unsafe {
+        prosianek_read(
+            kind,
+            today,
+            container.as_ptr(),
+            container.len(),
+            sheet.as_mut_ptr(),
+            sheet.len(),
+            &mut place,
+            &mut length,
+        )
+    };
+    answer(number, place, length as usize)
+}
+
+/// Writes the container of a value sheet into the room and gives its length. A refusal's place is that of the row's count in
+/// the sheet.
+pub fn write(kind: u64, today: u64, sheet: &[u8], container: &mut [u8]) -> Result<usize, Refused> {
+    let (mut place, mut length) = (0, 0);
+    let number = unsafe {
+        prosianek_write(
+            kind,
+            today,
+            sheet.as_ptr(),
+            sheet.len(),
+            container.as_mut_ptr(),
+            container.len(),
+            &mut place,
+            &mut length,
+        )
+    };
+    answer(number, place, length as usize)
+}
+
+/// Where the value of the element with this tag stands in a container that conforms. The range lies within the container, so
+/// that `&container[range]` is the value.
+pub fn view(
+    kind: u64,
+    today: u64,
+    container: &[u8],
+    tag: u64,
+) -> Result<std::ops::Range<usize>, Refused> {
+    let (mut place, mut offset, mut length) = (0, 0, 0);
+    let number = unsafe {
+        prosianek_view(
+            kind,
+            today,
+            container.as_ptr(),
+            container.len(),
+            tag,
+            &mut place,
+            &mut offset,
+            &mut length,
+        )
+    };
+    answer(number, place, offset as usize..(offset + length) as usize)
+}
+
+/// Writes the desk report of a container into the room and gives its length. A container that breaks a rule gets a report,
+/// too; a refusal's place is 0.
+pub fn report(kind: u64, today: u64, container: &[u8], room: &mut [u8]) -> Result<usize, Refused> {
+    let mut length = 0;
+    let number = unsafe {
+        prosianek_report(
+            kind,
+            today,
+            container.as_ptr(),
+            container.len(),
+            room.as_mut_ptr(),
+            room.len(),
+            &mut length,
+        )
+    };
+    answer(number, 0, length as usize)
+}
+
+/// The nine numbers of a FASC-N: agency, system, credential, series, issue, person, category, organisation, association.
+pub fn decode(bytes: &[u8]) -> Result<[u64; 9], Refused> {
+    let mut numbers = [0; 9];
+    let number = unsafe { prosianek_fascn_decode(bytes.as_ptr(), bytes.len(), &mut numbers) };
+    answer(number, 0, numbers)
+}
+
+/// Writes the FASC-N of nine numbers into the room, 25 bytes.
+pub fn encode(numbers: &[u64; 9], room: &mut [u8]) -> Result<(), Refused> {
+    let number = unsafe { prosianek_fascn_encode(numbers, room.as_mut_ptr(), room.len()) };
+    answer(number, 0, ())
+}

@@ -1,0 +1,147 @@
+// The seven calls of Prosianek for C and C++: PIV card data containers (SP 800-73-4) checked, read, written, viewed and
+// reported, and FASC-N numbers alone. crates/capi/src/lib.rt has the functions with their contracts; `rt staticlib capi`
+// proves them and makes target/staticlib/libcapi.a, which links into x86-64 programs and needs only memcpy and memset.
+//
+// What is proved: every call ends and answers, whatever the bytes, dates, tags and sizes are; number, place, length and
+// each byte of a lent room are what the contract says. The caller need not have checked anything. The calls keep nothing
+// from one call to the next.
+//
+// What a C caller owes, because nothing on this side of the border can check it:
+//   - a pointer is not null, also where its size is 0: lend any byte there;
+//   - a pointer with a size is valid for that many bytes: to read where it is const, else to read and write. The room's
+//     earlier contents do not matter, but they have to be there to be cleared;
+//   - a uint64_t pointer is valid for one number, or for nine where the parameter says [9], and is aligned as usual;
+//   - the rooms and the lent numbers of one call do not overlap each other, nor the call's input.
+// If one of these fails, no promise holds.
+//
+// The number that each call answers is one of enum prosianek_number. A call writes each of its lent numbers on every
+// answer. A refusal (any number but 0) leaves the lent room all zeros; a success leaves zeros after the last byte of
+// output. So the rest of a room never shows what an earlier call left there.
+#ifndef PROSIANEK_H
+#define PROSIANEK_H
+
+#include <stddef.h>
+#include <stdint.h>
+
+#ifdef __cplusplus
+extern "C" {
+#endif
+
+enum {
+    // The smallest room for a report. No report is longer.
+    PROSIANEK_REPORT_ROOM = 512,
+    // The bytes of a FASC-N.
+    PROSIANEK_FASCN_BYTES = 25,
+    // The bytes of the largest container.
+    PROSIANEK_LARGEST_CONTAINER = 32768,
+    // A room of this size holds the sheet of any container. A sheet has at most 6 bytes more than its container: an element
+    // there takes two bytes or more beside its value and here two, the outer tag and length go, and each of at most four
+    // optional rows that are absent takes two.
+    PROSIANEK_SHEET_ROOM = 32774
+};
+
+// The kinds of container. Every other number is refused.
+enum prosianek_kind {
+    PROSIANEK_CCC = 1,
+    PROSIANEK_CHUID = 2,
+    PROSIANEK_DISCOVERY = 3,
+    PROSIANEK_PRINTED = 4,
+    PROSIANEK_SECURITY = 5,
+    PROSIANEK_FINGERS = 6,
+    PROSIANEK_FACE = 7
+};
+
+// What a call answers.
+enum prosianek_number {
+    PROSIANEK_DONE = 0,             // conforms, or done
+    PROSIANEK_UNKNOWN_KIND = 1,     // the kind is not 1 to 7
+    PROSIANEK_NO_DATE = 2,          // today is no date
+    PROSIANEK_SMALL_ROOM = 3,       // the room is too small
+    PROSIANEK_LARGE_CONTAINER = 4,  // the container has over 32,768 bytes, given or to be written
+    PROSIANEK_TORN_SHEET = 5,       // the sheet is cut short or has bytes left over
+    PROSIANEK_NO_ELEMENT = 6,       // view: the element is absent, or the tag is not of the kind
+    PROSIANEK_LONG_NUMBER = 7,      // FASC-N encoding: a number has too many digits
+    PROSIANEK_LONG_REPORT = 8,      // a report over 512 bytes: it is proved that there is none
+    PROSIANEK_OUTER_TAG = 10,       // the outer tag is missing or wrong
+    PROSIANEK_LENGTH_FORM = 11,     // a length is cut short or not in the permitted form
+    PROSIANEK_OVERRUN = 12,         // a value runs past its enclosure, or the outer end is not the container's end
+    PROSIANEK_UNKNOWN_TAG = 13,     // the tag is not in the kind's table
+    PROSIANEK_TAG_ORDER = 14,       // the row is that of the element before, or an earlier one
+    PROSIANEK_MISSING_ROW = 15,     // a mandatory row is passed over, or missing at the end
+    PROSIANEK_ELEMENT_LENGTH = 16,  // the length of an element
+    PROSIANEK_BAD_FASCN = 17,       // FASC-N
+    PROSIANEK_BAD_UUID = 18,        // UUID
+    PROSIANEK_BAD_DATE = 19,        // a date in text, or an expiry outside its window
+    PROSIANEK_BAD_FIXED = 20,       // another fixed value, or the policy
+    PROSIANEK_BAD_HEADER = 21,      // CBEFF header
+    PROSIANEK_BAD_MINUTIAE = 22,    // minutiae
+    PROSIANEK_BAD_TEXT = 23         // a byte that is no text
+};
+
+// In all calls: kind is one of enum prosianek_kind; today is a date as an eight-digit number, such as 20260301; container
+// and size are the container's bytes and how many there are, from the outer tag on.
+
+// Whether a container conforms under the date.
+//   place    where the first broken rule is: the offset of the element's tag in the container; for 15 of the tag found
+//            instead, or the container's end; 0 for 1, 2, 4, for a broken outer tag or length, and when it conforms.
+// Answers 0 if it conforms; else 1, 2, 4, or the first broken rule, 10 to 23.
+uint64_t prosianek_check(uint64_t kind, uint64_t today, const uint8_t *container, size_t size, uint64_t *place);
+
+// The value sheet of a container: for each row of the kind's table, in order, a two-byte count, high byte first, which is 0
+// for an absent element and n + 1 for a value of n bytes, and then the n bytes.
+//   sheet    the lent room, room its size. PROSIANEK_SHEET_ROOM bytes are always enough, and so are size + 6.
+//   place    as prosianek_check gives it; 0 for 3.
+//   length   the sheet's length; 0 on a refusal.
+// Answers 0 if the sheet is written; else what prosianek_check answers, or 3 if the room is under the sheet's length. The room
+// then holds the sheet and zeros; on a refusal all zeros.
+uint64_t prosianek_read(uint64_t kind, uint64_t today, const uint8_t *container, size_t size, uint8_t *sheet, size_t room,
+                        uint64_t *place, uint64_t *length);
+
+// The container of a value sheet. What prosianek_read gave is written back byte for byte.
+//   sheet    the sheet, size its bytes.
+//   container  the lent room, room its size.
+//   place    where the first broken rule is: the offset in the sheet of the row's count; 0 for 1 to 5 and on a success.
+//   length   the container's length; 0 on a refusal.
+// Answers 0 if the container is written; else 1, 2, 5, then row by row 15, 16 or the value's rule, 17 to 23, then 4, then 3
+// if the room is under the container's length. The room then holds the container and zeros; on a refusal all zeros.
+uint64_t prosianek_write(uint64_t kind, uint64_t today, const uint8_t *sheet, size_t size, uint8_t *container, size_t room,
+                         uint64_t *place, uint64_t *length);
+
+// Where the value of one element stands in a container that conforms.
+//   tag      the element's tag as a number, such as 0x30; 0x5F2F for the tag of two bytes.
+//   place    as prosianek_check gives it; 0 for 6.
+//   offset   where the value starts in the container; 0 on a refusal.
+//   length   its length, which may be 0; 0 on a refusal.
+// Answers 0 if the element is there; else what prosianek_check answers, or 6 if the element is absent or the tag not of the
+// kind. offset + length is at most size.
+uint64_t prosianek_view(uint64_t kind, uint64_t today, const uint8_t *container, size_t size, uint64_t tag, uint64_t *place,
+                        uint64_t *offset, uint64_t *length);
+
+// The desk report of a container, as text, each line ended by a line feed, with no zero byte at its end. It has no personal
+// value.
+//   room     the lent room, room_size its size, at least PROSIANEK_REPORT_ROOM.
+//   length   the report's length; 0 on a refusal.
+// Answers 0 if a report is written, also about a container that breaks a rule: the report's line `verdict` tells that. Else
+// 1, 2, 3 for a room under 512 bytes, 4. The room then holds the report and zeros; on a refusal all zeros.
+uint64_t prosianek_report(uint64_t kind, uint64_t today, const uint8_t *container, size_t size, uint8_t *room,
+                          size_t room_size, uint64_t *length);
+
+// The nine numbers of a FASC-N.
+//   bytes    the FASC-N, size its bytes: 25, or it is refused.
+//   numbers  lent: agency, system, credential, series, issue, person, category, organisation, association. All nine are 0 on
+//            a refusal.
+// Answers 0, or 17 for anything but 25 conforming bytes.
+uint64_t prosianek_fascn_decode(const uint8_t *bytes, size_t size, uint64_t numbers[9]);
+
+// The FASC-N of nine numbers.
+//   numbers  in the order above, of at most 4, 4, 6, 1, 1, 10, 1, 4 and 1 digits.
+//   room     the lent room, size its size, at least PROSIANEK_FASCN_BYTES.
+// Answers 0; else 7 if a number has too many digits, then 3 for a room under 25 bytes. The room then holds the 25 bytes and
+// zeros; on a refusal all zeros.
+uint64_t prosianek_fascn_encode(const uint64_t numbers[9], uint8_t *room, size_t size);
+
+#ifdef __cplusplus
+}
+#endif
+
+#endif
