@@ -1,7 +1,9 @@
 // A line taken apart: numbers in decimal and bytes in hex.
-ghost use Prim.Native.Nat.{_+_, _<_, _≤_};
+ghost use Prim.Native.Nat.{_-_, _<_, _≤_, min};
 ghost use mathlib.Core.Path.{_≡_};
 ghost use lib.ListN.{length};
+ghost use Rattle.laws.specs.Layout.{part};
+ghost use Rattle.laws.specs.Room.{Put};
 
 // A number, and where the next field starts.
 pub struct Field {
@@ -88,7 +90,7 @@ pub fn bytes(s: &[u8], at: usize, out: &mut [u8]) -> usize
 }
 
 pub fn fewer(a: u64, b: usize) -> usize
-    ensures { λ r. ⌜ r ≤ b ⌝ }
+    ensures { λ r. ⌜ r ≡ min a b ⌝ }
 {
     if a < b as u64 {
         return a as usize;
@@ -104,12 +106,11 @@ pub fn fill(room: &mut [u8], b: u8) {
     }
 }
 
-// Where the line that starts at `at` ends: at its 0A, or at the end of what was read.
+// Where the line that starts at `at` ends: at its 0A, or at the end of what was read, as where `at` lies beyond it.
 pub fn line_end(s: &[u8], at: usize) -> usize
-    requires { ⌜ at ≤ length (now s) ⌝ }
-    ensures { λ r. ⌜ (at ≤ r) × (r ≤ length (now (s .entry))) ⌝ }
+    ensures { λ r. ⌜ (min at (length (now (s .entry))) ≤ r) × (r ≤ length (now (s .entry))) ⌝ }
 {
-    let mut i = at;
+    let mut i = fewer(at as u64, s.len());
     while i < s.len() {
         if s[i] == 10 {
             return i;
@@ -119,14 +120,16 @@ pub fn line_end(s: &[u8], at: usize) -> usize
     i
 }
 
-// The bytes from `from` to `to` go to the front: how many there are.
+// The bytes from `from` to `to`, as far as there are any, go to the front: how many there are.
 pub fn to_front(s: &mut [u8], from: usize, to: usize) -> usize
-    requires { ⌜ (from ≤ to) × (to ≤ length (now s)) ⌝ }
-    ensures { λ r. ⌜ r ≤ length (now (s .entry)) ⌝ }
+    ensures { λ r. ⌜ Put (part (now (s .entry)) from (to - from)) (now (s .entry)) (now (s .exit)) r ⌝ }
 {
+    let end = fewer(to as u64, s.len());
+    let mut at = from;
     let mut i: usize = 0;
-    while i < to - from {
-        s[i] = s[from + i];
+    while at < end {
+        s[i] = s[at];
+        at += 1;
         i += 1;
     }
     i
