@@ -1,28 +1,21 @@
 -- What the desk program prints, on each way out of the code. Assumes nothing.
 use Prim.Native.Nat.{ℕ, _-_, _≤_, _<_}
 use mathlib.Core.Path.{_≡_, refl, sym, ap, _∙_}
-use mathlib.Core.Logic.{inl, inr}
 use mathlib.Core.Bool.{true, false}
 use mathlib.Core.List.{List, [], _∷_}
 use native.Mathlib.Omega.{arith}
-use lib.Dec.{ltb, leb}
-use lib.ListN.{length, getD, take, drop, length-take, length-drop, length-replicate}
-use borrow.Author.Tests.{ltb-false}
+use lib.ListN.{length, getD, take, drop, length-take, length-drop}
 use Rattle.laws.specs.Room.{zeros, Put}
-use Rattle.laws.proofs.Cases.{which}
 use Rattle.laws.proofs.Rooms.{filled-put, filled-none, same-text}
-use Rattle.dates.specs.Date.{isDate, dateOf}
+use Rattle.dates.specs.Date.{dateOf}
 use Rattle.dates.specs.declared.Date.the-variants.{Is, Not}
 use Rattle.dates.proofs.Texts.{text-long}
 use Rattle.kinds.specs.Tables.{isKind}
 use Rattle.verdicts.specs.Output.{Output, refusal, text, Leaves}
 use Rattle.verdicts.specs.declared.Done.{Done}
-use Rattle.verdicts.specs.declared.Fault.{Fault}
 use Rattle.verdicts.proofs.Apart.{never-zero}
-use Rattle.container.specs.Container.{largest}
-use Rattle.container.specs.Reading.{outer}
-use Rattle.report.specs.Report.{reportText}
-use Rattle.report.specs.Calls.{fitting, reportOutput}
+use Rattle.report.specs.Calls.{reportOutput}
+use Rattle.report.proofs.Answers.{report-cases}
 use Rattle.desk.specs.Desk.{kindDigit, deskOutput, refusedText, printed, deskText}
 
 -- ---- the kind's digit
@@ -64,69 +57,32 @@ module _ (s : List ℕ) (room : ℕ) where
     unfolding deskText deskOutput
     dated-text d = rw (k, d)
 
--- ---- a report that was written fits its room
-
-no-refusal : {f : Fault} {p : ℕ} {t : List ℕ} → refusal f p ≡ text t → ⊥
-no-refusal e = let z : _≡_ {A = ℕ} 0 1 = cc in omega arith
-
-fitting-fits : (x t : List ℕ) → fitting x ≡ text t → length t ≤ 512
-fitting-fits x t e =
-    elim (which (ltb 512 (length x))) [
-      | inl h ↦ absurd (no-refusal (rw h at e))
-      | inr h ↦
-          let d : text x ≡ text t = rw h at e in
-          let q : x ≡ t = cc in
-          rw (← q) (ltb-false _ _ h)
-    ]
-
-pub report-fits : (kind today : ℕ) (c : List ℕ) (room : ℕ) (t : List ℕ) → reportOutput kind today c room ≡ text t → length t ≤ room
-unfolding reportOutput
-report-fits kind today c room t e =
-    elim (which (isKind kind)) [
-      | inr k ↦ absurd (no-refusal (rw k at e))
-      | inl k ↦
-          elim (which (isDate today)) [
-            | inr d ↦ absurd (no-refusal (rw (k, d) at e))
-            | inl d ↦
-                elim (which (ltb room 512)) [
-                  | inl r ↦ absurd (no-refusal (rw (k, d, r) at e))
-                  | inr r ↦
-                      elim (which (leb (length c) largest)) [
-                        | inr l ↦ absurd (no-refusal (rw (k, d, r, l) at e))
-                        | inl l ↦
-                            let f = fitting-fits (reportText kind today (length c) (outer kind today c)) t (rw (k, d, r, l) at e) in
-                            let g = ltb-false room 512 r in
-                            omega arith
-                      ]
-                ]
-          ]
-    ]
+-- ---- after the report call
 
 -- what the report call leaves is what is printed; or its number is printed, into the zeros that it left
-pub shows : (o : Output) (d : List ℕ) {e : List ℕ} {r : Done} → ((t : List ℕ) → o ≡ text t → length t ≤ length d) → Leaves o d e r → r .number ≡ 0 → Put (printed o) (zeros (length d)) e (r .length)
+shows : (o : Output) (d : List ℕ) {e : List ℕ} {r : Done} → ((t : List ℕ) → o ≡ text t → length t ≤ length d) → Leaves o d e r → r .number ≡ 0 → Put (printed o) (zeros (length d)) e (r .length)
 shows (refusal f p) d fit l z = absurd (never-zero f (sym (ap (λ (x : Done). x .number) (l .answer)) ∙ z))
 shows (text t) d fit l z = rw (l .room, ap (λ (x : Done). x .length) (l .answer)) (filled-put t (length d) (fit t refl))
 
-pub tells : (o : Output) (d : List ℕ) {e : List ℕ} {r : Done} → Leaves o d e r → (r .number ≡ 0 → ⊥) → (printed o ≡ refusedText (r .number)) × (e ≡ zeros (length d))
+tells : (o : Output) (d : List ℕ) {e : List ℕ} {r : Done} → Leaves o d e r → (r .number ≡ 0 → ⊥) → (printed o ≡ refusedText (r .number)) × (e ≡ zeros (length d))
 tells (refusal f p) d l z = (ap refusedText (sym (ap (λ (x : Done). x .number) (l .answer))), l .room ∙ sym (filled-none (length d)))
 tells (text t) d l z = absurd (z (ap (λ (x : Done). x .number) (l .answer)))
 
--- ---- after the report call, into a room that was cleared
+-- a report that was written fits its room
+fits : (kind today : ℕ) (c : List ℕ) (room : ℕ) (t : List ℕ) → reportOutput kind today c room ≡ text t → length t ≤ room
+fits kind today c room t =
+    report-cases kind today c room (λ o. o ≡ text t → length t ≤ room) (λ f e. let z : _≡_ {A = ℕ} 0 1 = cc in absurd (omega arith))
+    (λ u l s e. let q : u ≡ t = cc in rw (← q) (omega arith))
 
-module _ (s d z : List ℕ) {kind today : ℕ} {e : List ℕ} {r : Done} (k : isKind (kindDigit s) ≡ true) (t : dateOf (take 8 (drop 1 s)) ≡ Is today) (q : kind ≡ kindDigit s)
-    (clear : z ≡ zeros (length d)) (l : Leaves (reportOutput kind today (drop 9 s) (length z)) z e r) where
-  long : length z ≡ length d
-  long = rw clear (simp length-replicate)
-
-  says : printed (reportOutput kind today (drop 9 s) (length z)) ≡ deskText s (length d)
-  says = rw (q, long) (dated-text s (length d) k t)
+module _ (s d : List ℕ) {kind today : ℕ} {e : List ℕ} {r : Done} (k : isKind (kindDigit s) ≡ true) (t : dateOf (take 8 (drop 1 s)) ≡ Is today) (q : kind ≡ kindDigit s)
+    (l : Leaves (reportOutput kind today (drop 9 s) (length d)) d e r) where
+  says : printed (reportOutput kind today (drop 9 s) (length d)) ≡ deskText s (length d)
+  says = rw q (dated-text s (length d) k t)
 
   pub reported-refused : {e′ : List ℕ} {n : ℕ} → (r .number ≡ 0 → ⊥) → Put (refusedText (r .number)) e e′ n → Put (deskText s (length d)) (zeros (length d)) e′ n
   reported-refused h w =
-      let u = tells (reportOutput kind today (drop 9 s) (length z)) z l h in
-      same-text (sym (u .0) ∙ says) (rw (u .1, long) at w)
+      let u = tells (reportOutput kind today (drop 9 s) (length d)) d l h in
+      same-text (sym (u .0) ∙ says) (rw (u .1) at w)
 
   pub reported-shown : r .number ≡ 0 → Put (deskText s (length d)) (zeros (length d)) e (r .length)
-  reported-shown h =
-      let w = shows (reportOutput kind today (drop 9 s) (length z)) z (λ t p. report-fits kind today (drop 9 s) (length z) t p) l h in
-      rw long at (same-text says w)
+  reported-shown h = same-text says (shows (reportOutput kind today (drop 9 s) (length d)) d (fits kind today (drop 9 s) (length d)) l h)

@@ -39,22 +39,30 @@ fn put_refused(number: u64, room: &mut [u8]) -> usize
     at
 }
 
-// What is printed for an input: it goes to the front of the room, and zeros behind it.
+// The same in a room that may hold anything: zeros behind it.
+fn refuse(number: u64, room: &mut [u8]) -> usize
+    ensures { λ r. ⌜ Put (refusedText number) (zeros (length (now (room .entry)))) (now (room .exit)) r ⌝ }
+{
+    room::clear(room);
+    put_refused(number, room)
+}
+
+// What is printed for an input: it goes to the front of the room, and zeros behind it. The report call clears the room by
+// itself, and its refusals leave it all zeros.
 fn answer(input: &[u8], room: &mut [u8]) -> usize
     ensures { λ r. ⌜ Put (deskText (now (input .entry)) (length (now (room .entry)))) (zeros (length (now (room .entry)))) (now (room .exit)) r ⌝ }
 {
-    room::clear(room);
     let kind = kind_digit(input);
     if (kind < 1) | (7 < kind) {
-        return put_refused(1, room);
+        return refuse(1, room);
     }
     if input.len() < 9 {
-        return put_refused(2, room);
+        return refuse(2, room);
     }
     let Date::Is(today) = dates::date_of(&input[1..9]) else {
-        return put_refused(2, room);
+        return refuse(2, room);
     };
-    let done = report::report(kind, today, &input[9..], room);
+    let done = prosianek::report(kind, today, &input[9..], room);
     if done.number != 0 {
         return put_refused(done.number, room);
     }

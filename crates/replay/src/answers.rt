@@ -37,7 +37,7 @@ fn put_bytes(s: &[u8], out: &mut [u8], start: usize) -> usize
 fn put_check(kind: u64, today: u64, c: &[u8], out: &mut [u8]) -> usize
     ensures { λ r. ⌜ r ≤ length (now (out .entry)) ⌝ }
 {
-    let v = container::check(kind, today, c);
+    let v = prosianek::check(kind, today, c);
     let at = put_head(v.number, v.place, 0, out);
     put_bytes(b"", out, at)
 }
@@ -54,14 +54,14 @@ fn put_done(d: Done, lent: &[u8], out: &mut [u8]) -> usize
 fn put_read(kind: u64, today: u64, s: &[u8], lent: &mut [u8], out: &mut [u8]) -> usize
     ensures { λ r. ⌜ r ≤ length (now (out .entry)) ⌝ }
 {
-    let d = sheet::read(kind, today, s, lent);
+    let d = prosianek::read(kind, today, s, lent);
     put_done(d, lent, out)
 }
 
 fn put_written(kind: u64, today: u64, s: &[u8], lent: &mut [u8], out: &mut [u8]) -> usize
     ensures { λ r. ⌜ r ≤ length (now (out .entry)) ⌝ }
 {
-    let d = writing::write(kind, today, s, lent);
+    let d = prosianek::write(kind, today, s, lent);
     put_done(d, lent, out)
 }
 
@@ -69,7 +69,7 @@ fn put_written(kind: u64, today: u64, s: &[u8], lent: &mut [u8], out: &mut [u8])
 fn put_reported(kind: u64, today: u64, s: &[u8], lent: &mut [u8], out: &mut [u8]) -> usize
     ensures { λ r. ⌜ r ≤ length (now (out .entry)) ⌝ }
 {
-    let d = report::report(kind, today, s, lent);
+    let d = prosianek::report(kind, today, s, lent);
     put_done(d, lent, out)
 }
 
@@ -79,7 +79,7 @@ fn put_view(kind: u64, today: u64, tag: u64, c: &[u8], out: &mut [u8]) -> usize
 {
     let mut number: u64 = 0;
     let mut place: u64 = 0;
-    let part = views::view(kind, today, c, tag, &mut number, &mut place);
+    let part = prosianek::view(kind, today, c, tag, &mut number, &mut place);
     let at = put_head(number, place, part.len() as u64, out);
     put_bytes(part, out, at)
 }
@@ -139,7 +139,7 @@ fn put_encoded(s: &[u8], lent: &mut [u8], out: &mut [u8]) -> usize
         organisation: eight(s, 56),
         association: eight(s, 64),
     };
-    let number = fascn::encode(n, lent);
+    let number = prosianek::encode(n, lent);
     let at = put_head(number, 0, 0, out);
     put_bytes(lent, out, at)
 }
@@ -162,7 +162,7 @@ pub fn answer(
         3 => put_written(kind, today, s, lent, out),
         4 => put_view(kind, today, tag, s, out),
         5 => put_reported(kind, today, s, lent, out),
-        6 => put_decoded(fascn::decode(s), out),
+        6 => put_decoded(prosianek::decode(s), out),
         7 => put_encoded(s, lent, out),
         _ => 0,
     }
