@@ -35,9 +35,8 @@ enum {
     PROSIANEK_FASCN_BYTES = 25,
     // The bytes of the largest container.
     PROSIANEK_LARGEST_CONTAINER = 32768,
-    // A room of this size holds the sheet of any container. A sheet has at most 6 bytes more than its container: an element
-    // there takes two bytes or more beside its value and here two, the outer tag and length go, and each of at most four
-    // optional rows that are absent takes two.
+    // A room of this size holds the sheet of any container: a sheet has at most 6 bytes more than its container, which is
+    // proved (`room-for-sheet` in crates/promises/specs/Demands.antt).
     PROSIANEK_SHEET_ROOM = 32774
 };
 

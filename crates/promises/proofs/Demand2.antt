@@ -29,6 +29,8 @@ use Rattle.container.specs.InOrder.{Named}
 use Rattle.container.proofs.Promise.{exactly-when, unique, named}
 use Rattle.sheet.specs.Sheet.{IsSheet}
 use Rattle.sheet.specs.Calls.{readOutput}
+use Rattle.sheet.proofs.Answers.{read-fits}
+use Rattle.sheet.proofs.Bound.{sheet-bound}
 use Rattle.writing.specs.Writing.{writeOutput}
 use Rattle.writing.proofs.Promise.{accepted, read-values, read-write, write-read}
 use Rattle.views.specs.Views.{View, viewed}
@@ -136,6 +138,8 @@ demand-2 = record {
   read-values = reads;
   write-values = writes;
   accepted-when = accepts;
+  room-for-sheet = λ kind today c b vs f before after r h l.
+    gave before (read-fits kind today c (length before) b vs f (omega (arith, sheet-bound kind today vs c f))) (h .leaves) .0;
   read-then-write = there;
   write-then-read = back;
   view-value = λ kind today c b vs h i t o e v q at number place part bytes a. shown kind today c t (element-view kind today c b vs h i e v q) a;

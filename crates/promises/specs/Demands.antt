@@ -97,6 +97,9 @@ pub record Demand2 : Type 0 where
   -- a sheet is accepted exactly when it holds allowed values whose container fits the room
   pub accepted-when : (kind today : ℕ) (s before after : List ℕ) (r : Done) → Bytes s → Writes kind today s before after r
       → (r .number ≡ 0) ↔ ((vs : Values) × (c : List ℕ) × IsSheet (table kind) vs s × Conforms kind today vs c × (length c ≤ length before))
+  -- a room with six bytes more than the container takes its sheet, and so one of 32,774 takes any
+  pub room-for-sheet : (kind today : ℕ) (c : List ℕ) → Bytes c → (vs : Values) → Conforms kind today vs c
+      → (before after : List ℕ) (r : Done) → Reads kind today c before after r → length c + 6 ≤ length before → r .number ≡ 0
   -- "Writing the values that were read gives the container back byte for byte"
   pub read-then-write : (kind today : ℕ) (c before after : List ℕ) (r : Done) → Bytes c → Reads kind today c before after r → r .number ≡ 0
       → (before₂ after₂ : List ℕ) (r₂ : Done) → Writes kind today (take (r .length) after) before₂ after₂ r₂ → length c ≤ length before₂

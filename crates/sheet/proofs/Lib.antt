@@ -1,3 +1,4 @@
 pub mod Sheets
 pub mod Answers
 pub mod Examples
+pub mod Bound

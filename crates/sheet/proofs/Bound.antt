@@ -1,0 +1,72 @@
+-- A sheet has at most six bytes more than its container: a room of 32,774 bytes takes every sheet. Assumes nothing.
+use Prim.Native.Nat.{ℕ, _+_, _*_, _≤_}
+use mathlib.Core.Path.{_≡_, refl, ap}
+use mathlib.Core.Bool.{true, cond}
+use mathlib.Core.Logic.{inl, inr}
+use mathlib.Core.Option.{none, some}
+use mathlib.Core.List.{List, [], _∷_, _++_}
+use native.Mathlib.Omega.{arith}
+use lib.Dec.{leb, ltb}
+use lib.ListN.{length, length-append}
+use borrow.Author.Tests.{leb-true}
+use Rattle.laws.specs.Tests.{allBelow}
+use Rattle.laws.proofs.Cases.{which, at-each}
+use Rattle.lengths.specs.Length.{lengthBytes}
+use Rattle.kinds.specs.Tables.{Table, table}
+use Rattle.container.specs.Container.{Values, tagBytes, encode, Allowed, Conforms}
+use Rattle.sheet.specs.Sheet.{sheetOf}
+use Rattle.sheet.proofs.Sheets.{sheet-length}
+
+-- how many rows may be absent
+abbrev optionals : Table → ℕ
+optionals [] = 0
+optionals (r ∷ rs) = cond (r .optional) 1 0 + optionals rs
+
+-- in no kind more than four
+counted : allBelow (λ k. leb (optionals (table k)) 4) 8 ≡ true
+unfolding allBelow
+counted = refl
+
+few : (kind : ℕ) → kind ≤ 7 → optionals (table kind) ≤ 4
+few kind h = leb-true (optionals (table kind)) 4 (at-each (λ k. leb (optionals (table k)) 4) 8 counted kind (omega arith))
+
+tag-long : (t : ℕ) → 1 ≤ length (tagBytes t)
+tag-long t = elim (which (ltb t 256)) [
+  | inl q ↦ rw q (omega arith)
+  | inr q ↦ rw q (omega arith)
+]
+
+length-long : (n : ℕ) → 1 ≤ length (lengthBytes n)
+unfolding lengthBytes
+length-long n = elim (which (ltb n 128)) [
+  | inl q ↦ rw q (omega arith)
+  | inr q ↦ elim (which (ltb n 256)) [
+    | inl p ↦ rw (q, p) (omega arith)
+    | inr p ↦ rw (q, p) (omega arith)
+  ]
+]
+
+-- an element takes two bytes or more beside its value, as a section does; an absent row takes two bytes of the sheet alone
+rows-bound : (today : ℕ) (rs : Table) (vs : Values) → Allowed today rs vs → length (sheetOf vs) ≤ length (encode rs vs) + 2 * optionals rs
+unfolding sheetOf
+rows-bound today [] [] a = omega arith
+rows-bound today [] (o ∷ vs) a = absurd a
+rows-bound today (r ∷ rs) [] a = absurd a
+rows-bound today (r ∷ rs) (none ∷ vs) a =
+    let h = rows-bound today rs vs (a .1) in
+    let l = sheet-length none vs in
+    rw (a .0) (omega (arith, h, l))
+rows-bound today (r ∷ rs) (some v ∷ vs) a =
+    let h = rows-bound today rs vs (a .1) in
+    let l = sheet-length (some v) vs in
+    let k = length-append (tagBytes (r .tag)) (lengthBytes (length v) ++ (v ++ encode rs vs)) in
+    let m = length-append (lengthBytes (length v)) (v ++ encode rs vs) in
+    let n = length-append v (encode rs vs) in
+    omega (arith, h, l, k, m, n, tag-long (r .tag), length-long (length v))
+
+pub sheet-bound : (kind today : ℕ) (vs : Values) (c : List ℕ) → Conforms kind today vs c → length (sheetOf vs) ≤ length c + 6
+sheet-bound kind today vs c h =
+    let body = encode (table kind) vs in
+    let b = rows-bound today (table kind) vs (h .allowed) in
+    let l = length-append (lengthBytes (length body)) body in
+    omega (arith, b, few kind (h .kind-is .1), ap length (h .written), l, length-long (length body))
