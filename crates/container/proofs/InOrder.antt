@@ -20,7 +20,7 @@ use Rattle.verdicts.specs.declared.Fault.{Fault}
 use Rattle.verdicts.specs.declared.Fault.the-variants.{TagOrder, MissingRow}
 use Rattle.verdicts.specs.declared.Outcome.{Outcome}
 use Rattle.verdicts.specs.declared.Outcome.the-variants.{Broken}
-use Rattle.container.specs.Container.{Values, tagBytes, encode, Allowed}
+use Rattle.container.specs.Container.{tagBytes, encode}
 use Rattle.container.specs.Reading.{Parsed, values, fault, prepend, Element, whole, broken, element, long, has, tagHere, follow, parse, outcomeOf}
 use Rattle.container.specs.InOrder.{Place, nowhere, found, beyond, locate, onward, placed, inOrder, First}
 use Rattle.container.proofs.Rows.{kept, gone}

@@ -1,16 +1,14 @@
 -- The outer form and what comes before it, by the tests that the code makes. Assumes nothing.
 use Prim.Native.Nat.{ℕ, _+_, _-_, _≤_, _<_}
 use mathlib.Core.Path.{_≡_, refl}
-use mathlib.Core.Bool.{Bool, true, false, _||_}
+use mathlib.Core.Bool.{true, false}
 use mathlib.Core.Option.{some}
 use mathlib.Core.List.{List, [], _∷_}
 use native.Mathlib.Omega.{arith}
 use lib.ListN.{length, getD, drop}
 use lib.Seq.{drop-drop}
-use lib.Dec.{ltb}
-use borrow.Author.Tests.{le-leb, lt-leb, eq-eqb, ne-eqb, ltb-true, ltb-false}
+use borrow.Author.Tests.{le-leb, lt-leb, eq-eqb, ne-eqb}
 use Rattle.laws.specs.Bytes.{Bytes}
-use Rattle.laws.proofs.Cases.{either}
 use Rattle.lengths.specs.Length.{readLength, lengthAt}
 use Rattle.lengths.specs.declared.Length.the-variants.{Is, Bad}
 use Rattle.lengths.proofs.Reading.{some-read, none-read}
@@ -26,41 +24,23 @@ use Rattle.container.specs.Step.{walkedFrom}
 -- ---- 1, 2, 4
 
 module _ (kind today : ℕ) (c : List ℕ) where
-  no-kind : (kind < 1) → isKind kind ≡ false
-  no-kind h = simp (lt-leb 1 kind h)
-
-  over-kind : 7 < kind → isKind kind ≡ false
-  over-kind h = let l : 1 ≤ kind = omega arith in simp (le-leb 1 kind l, lt-leb kind 7 h)
-
-  pub not-kind : (ltb kind 1 || ltb 7 kind) ≡ true → isKind kind ≡ false
-  not-kind e = either (ltb kind 1) (ltb 7 kind) (λ p. no-kind (ltb-true _ _ p)) (λ p. over-kind (ltb-true _ _ p)) e
-
-  pub bad-kind : (ltb kind 1 || ltb 7 kind) ≡ true → Broken UnknownKind 0 ≡ outcome kind today c
+  pub bad-kind : isKind kind ≡ false → Broken UnknownKind 0 ≡ outcome kind today c
   unfolding outcome parsed
-  bad-kind e = rw (not-kind e)
+  bad-kind k = rw k
 
-  good-kind : (a b : Bool) → (a || b) ≡ false → (a ≡ false) × (b ≡ false)
-  good-kind true b e = let z : _≡_ {A = ℕ} 0 1 = cc in absurd (omega arith)
-  good-kind false b e = (refl, e)
-
-  module _ (e : (ltb kind 1 || ltb 7 kind) ≡ false) where
-    pub kind-good : isKind kind ≡ true
-    kind-good =
-        let p = good-kind (ltb kind 1) (ltb 7 kind) e in
-        simp (le-leb 1 kind (ltb-false _ _ (p .0)), le-leb kind 7 (ltb-false _ _ (p .1)))
-
+  module _ (k : isKind kind ≡ true) where
     pub bad-date : isDate today ≡ false → Broken NoDate 0 ≡ outcome kind today c
     unfolding outcome parsed
-    bad-date d = rw (kind-good, d)
+    bad-date d = rw (k, d)
 
     module _ (d : isDate today ≡ true) where
       pub too-large : 32768 < length c → Broken LargeContainer 0 ≡ outcome kind today c
       unfolding outcome parsed
-      too-large l = rw (kind-good, d, lt-leb _ _ l)
+      too-large l = rw (k, d, lt-leb _ _ l)
 
       pub goes-in : length c ≤ 32768 → outcomeOf (outer kind today c) ≡ outcome kind today c
       unfolding outcome parsed
-      goes-in l = rw (kind-good, d, le-leb _ _ l)
+      goes-in l = rw (k, d, le-leb _ _ l)
 
 -- ---- 10, 11, 12
 

@@ -224,7 +224,7 @@ fn whole(kind: u64, today: u64, c: &[u8]) -> Outcome
 pub fn judge(kind: u64, today: u64, c: &[u8]) -> Outcome
     ensures { λ r. ⌜ r ≡ outcome kind today (now (c .entry)) ⌝ }
 {
-    if (kind < 1) | (7 < kind) {
+    if !kinds::is_kind(kind) {
         return Outcome::Broken(Fault::UnknownKind, 0);
     }
     if !dates::is_date(today) {

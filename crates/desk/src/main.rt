@@ -53,7 +53,7 @@ fn answer(input: &[u8], room: &mut [u8]) -> usize
     ensures { λ r. ⌜ Put (deskText (now (input .entry)) (length (now (room .entry)))) (zeros (length (now (room .entry)))) (now (room .exit)) r ⌝ }
 {
     let kind = kind_digit(input);
-    if (kind < 1) | (7 < kind) {
+    if !kinds::is_kind(kind) {
         return refuse(1, room);
     }
     if input.len() < 9 {

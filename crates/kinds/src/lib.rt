@@ -1,6 +1,6 @@
 // The tables of the seven kinds: which row a tag has, which tag a row has, and which row is the last that must be there.
 ghost use mathlib.Core.Path.{_≡_};
-ghost use Rattle.kinds.specs.Tables.{rowOf, rowAt, lastRow};
+ghost use Rattle.kinds.specs.Tables.{isKind, rowOf, rowAt, lastRow};
 
 // The rule of a row's value.
 pub enum ValueRule {
@@ -30,6 +30,13 @@ pub enum Place {
     // The row's tag, and whether it is optional.
     Holds(u64, bool),
     End,
+}
+
+// "1: kind not 1 to 7"
+pub fn is_kind(kind: u64) -> bool
+    ensures { λ r. ⌜ r ≡ isKind kind ⌝ }
+{
+    (1 <= kind) & (kind <= 7)
 }
 
 pub fn row_of(kind: u64, tag: u64) -> Row

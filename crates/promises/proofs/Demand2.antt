@@ -139,7 +139,7 @@ demand-2 = record {
   write-values = writes;
   accepted-when = accepts;
   room-for-sheet = λ kind today c b vs f before after r h l.
-    gave before (read-fits kind today c (length before) b vs f (omega (arith, sheet-bound kind today vs c f))) (h .leaves) .0;
+      gave before (read-fits kind today c (length before) b vs f (omega (arith, sheet-bound kind today vs c f))) (h .leaves) .0;
   read-then-write = there;
   write-then-read = back;
   view-value = λ kind today c b vs h i t o e v q at number place part bytes a. shown kind today c t (element-view kind today c b vs h i e v q) a;

@@ -21,7 +21,7 @@ use Rattle.lengths.specs.Length.{lengthBytes}
 use Rattle.fascn.specs.Fascn.{IsFascn}
 use Rattle.fascn.proofs.Codec.{complete}
 use Rattle.dates.specs.Date.{textNumber}
-use Rattle.dates.proofs.Dates.{date-exact, small, eight-digits}
+use Rattle.dates.proofs.Dates.{date-exact, small, eight-digits, text-number}
 use Rattle.cbeff.specs.Header.{fingers, face}
 use Rattle.cbeff.proofs.Exact.{fascn-inside}
 use Rattle.rules.specs.Rules.{Keeps}
@@ -43,7 +43,6 @@ use Rattle.container.proofs.Exact.{bytes-front, bytes-back}
 use Rattle.report.specs.Open.{nothing, model, holder, card, policy, issuer, rowValue, agencyOf, systemOf, openOf, shape}
 use Rattle.report.specs.Report.{kindName, number, digitsLine, cardPart, elementLine, elementLines, elementCount, elementsPart, openPart, reportText}
 use Rattle.report.specs.Calls.{reportOutput}
-use Rattle.dates.proofs.Dates.{text-number}
 use Rattle.report.proofs.Bound.{row-fits, row-long, fitted}
 use Rattle.report.proofs.Same.{conforms-outer}
 

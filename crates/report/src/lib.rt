@@ -278,7 +278,7 @@ pub fn report(kind: u64, today: u64, container: &[u8], room: &mut [u8]) -> Done
     ensures { λ r. ⌜ Leaves (reportOutput kind today (now (container .entry)) (length (now (room .entry)))) (now (room .entry)) (now (room .exit)) r ⌝ }
 {
     room::clear(room);
-    if !((1 <= kind) & (kind <= 7)) {
+    if !kinds::is_kind(kind) {
         return verdicts::refused(Fault::UnknownKind, 0);
     }
     if !dates::is_date(today) {

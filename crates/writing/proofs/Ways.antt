@@ -2,14 +2,14 @@
 use Prim.Native.Nat.{ℕ, _+_, _-_, _*_, _≤_, _<_}
 use mathlib.Core.Path.{_≡_, refl, _∙_}
 use mathlib.Core.Logic.{inl, inr}
-use mathlib.Core.Bool.{true, false, _||_, true≢false}
+use mathlib.Core.Bool.{true, false}
 use mathlib.Core.Option.{Option, none, some}
 use mathlib.Core.List.{List, [], _∷_, _++_}
 use native.Mathlib.Omega.{arith}
 use lib.Dec.{ltb, eqb}
 use lib.ListN.{length, take, drop, length-append}
-use borrow.Author.Tests.{lt-ltb, le-ltb, le-leb, lt-leb, ltb-true, ltb-false}
-use Rattle.laws.proofs.Cases.{which, not-so, either, no-some}
+use borrow.Author.Tests.{lt-ltb, le-ltb, le-leb, lt-leb}
+use Rattle.laws.proofs.Cases.{which, no-some}
 use Rattle.dates.specs.Date.{isDate}
 use Rattle.kinds.specs.Tables.{Table, table, isKind}
 use Rattle.lengths.specs.Length.{lengthBytes}
@@ -18,7 +18,6 @@ use Rattle.verdicts.specs.declared.Fault.{Fault}
 use Rattle.verdicts.specs.declared.Fault.the-variants.{UnknownKind, NoDate, SmallRoom, LargeContainer, TornSheet}
 use Rattle.verdicts.specs.declared.Outcome.the-variants.{Fine, Broken}
 use Rattle.container.specs.Container.{Values, encode, outerTag, container}
-use Rattle.container.proofs.Promise.{kind-exact}
 use Rattle.writing.specs.Writing.{ahead, opened, judged, sizedOut, writeOutput}
 use Rattle.writing.specs.Sections.{held, bodyOf}
 use Rattle.writing.specs.declared.Body.the-variants.{Cut, Takes}
@@ -51,31 +50,21 @@ opened-held (r ∷ rs) (a ∷ b ∷ s) vs e =
 -- ---- 1, 2
 
 module _ (kind today : ℕ) (s : List ℕ) (room : ℕ) where
-  pub bad-kind : (ltb kind 1 || ltb 7 kind) ≡ true → writeOutput kind today s room ≡ refusal UnknownKind 0
+  pub bad-kind : isKind kind ≡ false → writeOutput kind today s room ≡ refusal UnknownKind 0
   unfolding writeOutput
-  bad-kind e =
-      let k : isKind kind ≡ false =
-      not-so (isKind kind) (λ k. let h = kind-exact kind .0 k in either {P = ⊥} (ltb kind 1) (ltb 7 kind) (λ p. omega (arith, ltb-true kind 1 p)) (λ p. omega (arith, ltb-true 7 kind p)) e) in
-      rw k
+  bad-kind k = rw k
 
-  module _ (e : (ltb kind 1 || ltb 7 kind) ≡ false) where
-    is-kind : isKind kind ≡ true
-    is-kind =
-        elim (which (ltb kind 1)) [
-          | inl p ↦ absurd (true≢false (rw p at e))
-          | inr p ↦ let q : ltb 7 kind ≡ false = rw p at e in kind-exact kind .1 (ltb-false _ _ p, ltb-false _ _ q)
-        ]
-
+  module _ (k : isKind kind ≡ true) where
     pub bad-date : isDate today ≡ false → writeOutput kind today s room ≡ refusal NoDate 0
     unfolding writeOutput
-    bad-date d = rw (is-kind, d)
+    bad-date d = rw (k, d)
 
     -- ---- 5
 
     module _ (d : isDate today ≡ true) where
       pub torn-sheet : Cut ≡ bodyOf (table kind) (opened (table kind) s) → writeOutput kind today s room ≡ refusal TornSheet 0
       unfolding writeOutput
-      torn-sheet b = rw (is-kind, d, go (opened (table kind) s) b)
+      torn-sheet b = rw (k, d, go (opened (table kind) s) b)
         where
           go : (o : Option Values) → Cut ≡ bodyOf (table kind) o → o ≡ none
           go none f = refl
@@ -100,12 +89,12 @@ module _ (kind today : ℕ) (s : List ℕ) (room : ℕ) where
 
         pub broken : {f : Fault} {p : ℕ} → Broken f p ≡ judged today (table kind) vs 0 → writeOutput kind today s room ≡ refusal f p
         unfolding writeOutput
-        broken j = rw (is-kind, d, whole .0, ← j)
+        broken j = rw (k, d, whole .0, ← j)
 
         module _ (j : Fine ≡ judged today (table kind) vs 0) {w : ℕ} (g : w ≡ length (lengthBytes n)) where
           sized : writeOutput kind today s room ≡ sizedOut (container kind vs) room
           unfolding writeOutput
-          sized = rw (is-kind, d, whole .0, ← j)
+          sized = rw (k, d, whole .0, ← j)
 
           long : length (container kind vs) ≡ 1 + w + n
           long = rw (g, ← whole .1) (omega (arith, length-append (lengthBytes n) (encode (table kind) vs), whole .1))

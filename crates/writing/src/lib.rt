@@ -224,7 +224,7 @@ pub fn write(kind: u64, today: u64, sheet: &[u8], container: &mut [u8]) -> Done
     ensures { λ r. ⌜ Leaves (writeOutput kind today (now (sheet .entry)) (length (now (container .entry)))) (now (container .entry)) (now (container .exit)) r ⌝ }
 {
     room::clear(container);
-    if (kind < 1) | (7 < kind) {
+    if !kinds::is_kind(kind) {
         return verdicts::refused(Fault::UnknownKind, 0);
     }
     if !dates::is_date(today) {

@@ -1,9 +1,8 @@
 -- `report::put_issuer` meets its contract: its pieces stand one after the other. Assumes nothing.
 use mathlib.Core.List.{[], _∷_, append-assoc}
-use Rattle.laws.proofs.Rooms.{then}
+use Rattle.laws.proofs.Rooms.{then, same-text}
 use Rattle.texts.specs.Text.{ascii}
 use Rattle.report.specs.Report.{openPart}
-use Rattle.laws.proofs.Rooms.{same-text}
 use borrow.Author.Needs.{needs}
 use Rattle.report.proofs.put_issuer.Statement.{statement}
 use Rattle.report.proofs.put_issuer.Tie as tie

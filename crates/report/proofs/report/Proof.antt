@@ -21,23 +21,23 @@ bytes : (x : tie.After-shared-slice-known) → Bytes (x .before .args .container
 bytes x = below-of 256 (x .before .args .container .now) (λ i. x .shared-slice-known .given i .fits)
 
 -- past the first test, and past the second
-a-kind : (e : tie.Else1) → isKind (e .before .before .before .before .before .before .before .args .kind) ≡ true
-a-kind e = not-false _ (e .if1 .left)
+a-kind : (e : tie.Else1) → isKind (e .before .before .before .before .before .before .before .before .args .kind) ≡ true
+a-kind e = sym (e .before .is-kind .ensures) ∙ not-false _ (e .if1 .left)
 
-a-date : (f : tie.Else2) → isDate (f .before .before .before .before .before .before .before .before .before .args .today) ≡ true
+a-date : (f : tie.Else2) → isDate (f .before .before .before .before .before .before .before .before .before .before .args .today) ≡ true
 a-date f = sym (f .before .is-date .ensures) ∙ not-false _ (f .if2 .left)
 
 returns : tie.Need-returns
 returns c =
-    let z = c .before .before .before .before in
+    let z = c .before .before .before .before .before in
     let a = z .before .before .before .before .args in
-    refuses (a .room .now) (report-1 (a .kind) (a .today) (a .container .now) _ (not-true _ (c .before .if1 .taken))) (z .clear .ensures) (c .refused .ensures)
+    refuses (a .room .now) (report-1 (a .kind) (a .today) (a .container .now) _ (sym (c .before .before .is-kind .ensures) ∙ not-true _ (c .before .if1 .taken))) (z .clear .ensures) (c .refused .ensures)
 
 returns-2 : tie.Need-returns-2
 returns-2 c =
     let i = c .before .before in
     let e = i .before in
-    let z = e .before .before .before in
+    let z = e .before .before .before .before in
     let a = z .before .before .before .before .args in
     refuses (a .room .now) (report-2 (a .kind) (a .today) (a .container .now) _ (a-kind e) (sym (i .is-date .ensures) ∙ not-true _ (c .before .if2 .taken))) (z .clear .ensures) (c .refused2 .ensures)
 
@@ -46,7 +46,7 @@ returns-3 c =
     let t = c .before in
     let f = t .before in
     let e = f .before .before in
-    let z = e .before .before .before in
+    let z = e .before .before .before .before in
     let a = z .before .before .before .before .args in
     let l : length (a .room .now) < 512 = omega (arith, t .if3 .taken) in
     refuses (a .room .now) (report-3 (a .kind) (a .today) (a .container .now) _ (a-kind e) (a-date f) l) (z .clear .ensures) (c .refused3 .ensures)
@@ -57,7 +57,7 @@ returns-4 c =
     let g = t .before in
     let f = g .before in
     let e = f .before .before in
-    let z = e .before .before .before in
+    let z = e .before .before .before .before in
     let a = z .before .before .before .before .args in
     let l : 512 ≤ length (a .room .now) = omega (arith, g .if3 .left) in
     refuses (a .room .now) (report-4 (a .kind) (a .today) (a .container .now) _ (a-kind e) (a-date f) l (t .if4 .taken)) (z .clear .ensures) (c .refused4 .ensures)
@@ -70,7 +70,7 @@ returns-5 c =
     let g = s .before in
     let f = g .before in
     let e = f .before .before in
-    let z = e .before .before .before in
+    let z = e .before .before .before .before in
     let x = z .before .before .before in
     let a = x .before .args in
     let l : 512 ≤ length (a .room .now) = omega (arith, g .if3 .left) in
@@ -84,7 +84,7 @@ returns-6 c =
     let g = s .before in
     let f = g .before in
     let e = f .before .before in
-    let z = e .before .before .before in
+    let z = e .before .before .before .before in
     let x = z .before .before .before in
     let a = x .before .args in
     let l : 512 ≤ length (a .room .now) = omega (arith, g .if3 .left) in
@@ -95,6 +95,7 @@ pub report-spec : {M : Type 1} → statement M
 report-spec =
     tie.close
     (tie.spec
+    (λ c κs. search needs)
     (λ c κs. search needs)
     (λ c κs. search needs)
     (λ c. search needs)
