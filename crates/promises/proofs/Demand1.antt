@@ -19,7 +19,9 @@ use Rattle.fascn.specs.Reading.{valuesOf, framed, decoded}
 use Rattle.fascn.specs.Calls.{status, output, Encoded}
 use Rattle.fascn.specs.declared.Numbers.{Numbers}
 use Rattle.fascn.proofs.Packing.{length-encoded}
-use Rattle.verdicts.specs.Verdicts.{verdictOf}
+use Rattle.verdicts.specs.Verdicts.{numberOf, verdictOf}
+use Rattle.verdicts.specs.declared.Fault.{Fault}
+use Rattle.verdicts.proofs.Apart.{never-zero}
 use Rattle.verdicts.specs.declared.Fault.the-variants.{SmallRoom, LongNumber, NoElement, BadFascn}
 use Rattle.verdicts.specs.declared.Outcome.{Outcome}
 use Rattle.verdicts.specs.declared.Outcome.the-variants.{Fine, Broken}
@@ -107,26 +109,26 @@ report-fits kind today c room = report-cases kind today c room (Fits room) (λ f
 
 -- ---- encoding: 7, 3, or the 25 bytes
 
-encode-clean : (n : Numbers) (d e : List ℕ) (k : ℕ) → Encoded n d e k → ((k ≡ 0) × Clean d e k 25) ⊎ Clean d e k 0
+encode-clean : (n : Numbers) (d e : List ℕ) (k : ℕ) → Encoded n d e k → ((k ≡ 0) × Clean d e k 25) ⊎ ((k ≡ 0 → ⊥) × Clean d e k 0)
 unfolding status output
 encode-clean n d e k l =
     elim (which (inRange n)) [
       | inl r ↦
           elim (which (ltb (length d) 25)) [
-            | inl s ↦ inr (empty (inr (SmallRoom, l .answer ∙ rw (r, s))) (l .room ∙ rw (r, s)))
+            | inl s ↦ inr (empty SmallRoom (l .answer ∙ rw (r, s)) (l .room ∙ rw (r, s)))
             | inr s ↦ inl (l .answer ∙ rw (r, s), whole (l .answer ∙ rw (r, s)) (ltb-false (length d) 25 s) (l .room ∙ rw (r, s)))
           ]
-      | inr r ↦ inr (empty (inr (LongNumber, l .answer ∙ rw r)) (l .room ∙ rw r))
+      | inr r ↦ inr (empty LongNumber (l .answer ∙ rw r) (l .room ∙ rw r))
     ]
   where
-    empty : Numbered k → e ≡ filled [] (length d) → Clean d e k 0
-    empty a q = rw q (record {
-      by-number = a;
+    empty : (f : Fault) → k ≡ numberOf f → e ≡ filled [] (length d) → (k ≡ 0 → ⊥) × Clean d e k 0
+    empty f a q = (λ z. never-zero f (sym a ∙ z), rw q (record {
+      by-number = inr (f, a);
       same-room = length-filled [] (length d) (omega arith);
       refused = λ z. sym (filled-none (length d));
       inside = omega arith;
       behind = back [] (length d);
-    })
+    }))
 
     whole : k ≡ 0 → 25 ≤ length d → e ≡ filled (encoded n) (length d) → Clean d e k 25
     whole z h q =

@@ -64,7 +64,7 @@ pub record Demand1 : Type 0 where
   pub write-clean : (kind today : ℕ) (s before after : List ℕ) (r : Done) → Writes kind today s before after r → Clean before after (r .number) (r .length)
   pub report-clean : (kind today : ℕ) (c before after : List ℕ) (r : Done) → Reports kind today c before after r → Clean before after (r .number) (r .length)
   pub encode-clean : (n : Numbers) (before after : List ℕ) (number : ℕ) → Encodes n before after number
-      → ((number ≡ 0) × Clean before after number 25) ⊎ Clean before after number 0
+      → ((number ≡ 0) × Clean before after number 25) ⊎ ((number ≡ 0 → ⊥) × Clean before after number 0)
 
 -- ---- Demand 2. "Under a given date a container of a known kind conforms exactly when some values allowed by the rules are written as those bytes;
 -- otherwise the first broken rule and its place are named. Writing the values that were read gives the container back byte for byte, and reading what was
