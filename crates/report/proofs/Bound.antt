@@ -1,13 +1,13 @@
 -- "8: report over 512 bytes" is never said: no report is so long, whether the container conforms or not. Assumes nothing.
-use Prim.Native.Nat.{ℕ, zero, suc, _+_, _*_, _^_, _≤_, _<_}
+use Prim.Native.Nat.{ℕ, suc, _+_, _*_, _^_, _≤_, _<_}
 use mathlib.Core.Logic.{inl, inr}
-use mathlib.Core.Path.{_≡_, refl, sym, ap, _∙_}
-use mathlib.Core.Bool.{Bool, true, false, cond, _&&_, true≢false}
+use mathlib.Core.Path.{_≡_, refl, ap, _∙_}
+use mathlib.Core.Bool.{Bool, true, false, cond, _&&_}
 use mathlib.Core.Option.{Option, none, some}
 use mathlib.Core.List.{List, [], _∷_, _++_}
 use native.Mathlib.Omega.{arith}
 use lib.Dec.{leb, eqb}
-use lib.ListN.{length, getD, drop, length-append, length-drop}
+use lib.ListN.{length, drop, length-append, length-drop}
 use borrow.Author.Tests.{le-ltb, eqb-true, leb-true}
 use Rattle.laws.specs.Bytes.{Bytes}
 use Rattle.laws.proofs.Bases.{below-drop}
@@ -16,8 +16,7 @@ use Rattle.lengths.specs.Length.{Spelt, lengthBytes, readLength}
 use Rattle.lengths.proofs.Spellings.{inside}
 use Rattle.texts.specs.Text.{ascii}
 use Rattle.texts.proofs.Bounds.{decimal-length, fixed-length, hex-length, tag-most}
-use Rattle.kinds.specs.Tables.{Entry, Table, table, printed, exactly, Permitted, must, any}
-use Rattle.kinds.specs.declared.ValueRule.the-variants.{Free}
+use Rattle.kinds.specs.Tables.{Entry, Table, table, printed, Permitted}
 use Rattle.verdicts.specs.Output.{text}
 use Rattle.verdicts.specs.Verdicts.{numberOf}
 use Rattle.verdicts.specs.declared.Fault.{Fault}
@@ -27,9 +26,10 @@ use Rattle.container.specs.Reading.{Parsed, values, fault, prepend, Element, wh
 use Rattle.container.proofs.One.{element-is, good-fits}
 use Rattle.container.proofs.Tags.{of-each, tag-is}
 use Rattle.container.proofs.Exact.{bytes-front, bytes-back}
-use Rattle.report.specs.Open.{Open, nothing, model, holder, card, policy, issuer, rowValue, openOf}
+use Rattle.report.specs.Open.{Open, nothing, model, holder, card, policy, issuer, openOf}
 use Rattle.report.specs.Report.{kindName, cardPart, elementLines, elementCount, openPart, reportText}
 use Rattle.report.specs.Calls.{fitting}
+use Rattle.report.proofs.Valued.{value-fits, row-long}
 
 -- ---- what is read of n bytes: values that are allowed, or a fault at a place within them
 
@@ -101,28 +101,6 @@ module _ (today : ℕ) where
         | inl q ↦ rw q (in-inner (table kind) (readLength s) s refl (b .1))
         | inr q ↦ rw q (omega arith)
       ]
-
--- ---- a row that must be there has a value that fits
-
-abbrev other : Entry
-other = must 0 any Free
-
-abbrev pub rowOr : Table → ℕ → Entry
-rowOr rows i = getD rows i other
-
-pub row-fits : (today i : ℕ) (rows : Table) (vs : Values) → i < length rows → rowOr rows i .optional ≡ false → Allowed today rows vs
-    → Fits today (rowOr rows i) (rowValue vs i)
-row-fits today i [] vs h o a = absurd (omega arith)
-row-fits today i (r ∷ rs) [] h o a = absurd a
-row-fits today zero (r ∷ rs) (none ∷ vs) h o a = absurd (true≢false (sym (a .0) ∙ o))
-row-fits today zero (r ∷ rs) (some v ∷ vs) h o a = a .0
-row-fits today (suc i) (r ∷ rs) (none ∷ vs) h o a = row-fits today i rs vs (omega arith) o (a .1)
-row-fits today (suc i) (r ∷ rs) (some v ∷ vs) h o a = row-fits today i rs vs (omega arith) o (a .1)
-
--- a row that takes n bytes and nothing else
-pub row-long : (n k : ℕ) → Permitted (exactly n) k → k ≡ n
-row-long n k (inl p) = omega arith
-row-long n k (inr p) = absurd (true≢false (sym (p .0)))
 
 -- ---- the parts
 
@@ -244,7 +222,7 @@ open-short kind today vs a =
     pick (eqb kind 1) model _ (λ e. tt)
     (pick (eqb kind 2) _ _ (λ e. tt)
     (pick (eqb kind 3) _ _ (λ e. tt)
-    (pick (eqb kind 4) _ _ (λ e. row-long 15 _ (row-fits today 4 printed vs (omega arith) refl (rw (eqb-true kind 4 e) at a) .long))
+    (pick (eqb kind 4) _ _ (λ e. rw (eqb-true kind 4 e) (row-long 15 _ (value-fits today 0x06 printed vs refl (rw (eqb-true kind 4 e) at a) .long)))
     (pick (eqb kind 5) _ _ (λ e. tt) tt))))
   where
     pick : (b : Bool) (x y : Open) → (b ≡ true → Short x) → Short y → Short (cond b x y)

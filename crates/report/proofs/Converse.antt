@@ -29,21 +29,22 @@ use Rattle.kinds.specs.declared.ValueRule.the-variants.{Expiry}
 use Rattle.texts.specs.Text.{ascii, hexTag}
 use Rattle.texts.proofs.Reading.{Reads, and-then, and, given, so, behind, read, Without, ended-reads}
 use Rattle.texts.proofs.Numbers.{number-reads, fixed-reads, hex-reads, tag-reads, raw-reads}
-use Rattle.kinds.specs.Tables.{Table, table, chuid, discovery, printed, fingers as fingerRows, face as faceRows, IsKind}
+use Rattle.kinds.specs.Tables.{Table, table, IsKind}
 use Rattle.verdicts.specs.Output.{Output, refusal, text, Leaves}
 use Rattle.verdicts.specs.declared.Done.{Done}
 use Rattle.verdicts.specs.declared.Fault.the-variants.{SmallRoom}
 use Rattle.verdicts.proofs.Apart.{never-zero}
-use Rattle.container.specs.Container.{Values, encode, tagBytes, container, Allowed, Conforms}
+use Rattle.container.specs.Container.{Values, encode, container, Fits, Allowed, Conforms}
 use Rattle.container.specs.Reading.{values, has}
 use Rattle.container.proofs.Promise.{kind-exact}
 use Rattle.container.proofs.Rows.{Distinct}
 use Rattle.container.proofs.Tags.{Plain, short, double, Tags, tags, distinct}
-use Rattle.container.proofs.Exact.{bytes-front, bytes-back}
-use Rattle.report.specs.Open.{nothing, model, holder, card, policy, issuer, rowValue, agencyOf, systemOf, openOf, shape}
+use Rattle.container.proofs.Exact.{bytes-back}
+use Rattle.report.specs.Open.{nothing, model, holder, card, policy, issuer, taggedValue, agencyOf, systemOf, openOf, shape}
 use Rattle.report.specs.Report.{kindName, number, digitsLine, cardPart, elementLine, elementLines, elementCount, elementsPart, openPart, reportText}
 use Rattle.report.specs.Calls.{reportOutput}
-use Rattle.report.proofs.Bound.{row-fits, row-long, fitted}
+use Rattle.report.proofs.Valued.{taggedRow, value-fits, row-long, value-bytes}
+use Rattle.report.proofs.Bound.{fitted}
 use Rattle.report.proofs.Same.{conforms-outer}
 
 -- ---- CARD
@@ -135,18 +136,6 @@ elements-read k t u vs ws a b =
 
 -- ---- OPEN: what is said of the open values is read back, since their rules bound them
 
-behind-length : (tag : ℕ) (v s : List ℕ) → Bytes (tagBytes tag ++ (lengthBytes (length v) ++ (v ++ s))) → Bytes (v ++ s)
-behind-length tag v s b = bytes-back (lengthBytes (length v)) (v ++ s) (bytes-back (tagBytes tag) (lengthBytes (length v) ++ (v ++ s)) b)
-
-value-bytes : (today i : ℕ) (rows : Table) (vs : Values) → Allowed today rows vs → Bytes (encode rows vs) → Bytes (rowValue vs i)
-value-bytes t i [] [] a b = tt
-value-bytes t i [] (o ∷ vs) a b = absurd a
-value-bytes t i (r ∷ rs) [] a b = absurd a
-value-bytes t zero (r ∷ rs) (none ∷ vs) a b = tt
-value-bytes t (suc i) (r ∷ rs) (none ∷ vs) a b = value-bytes t i rs vs (a .1) b
-value-bytes t zero (r ∷ rs) (some v ∷ vs) a b = bytes-front v (encode rs vs) (behind-length (r .tag) v (encode rs vs) b)
-value-bytes t (suc i) (r ∷ rs) (some v ∷ vs) a b = value-bytes t i rs vs (a .1) (bytes-back v (encode rs vs) (behind-length (r .tag) v (encode rs vs) b))
-
 -- agency and system of a FASC-N
 fascn-small : (s : List ℕ) → IsFascn s → (agencyOf s < 10 ^ 4) × (systemOf s < 10 ^ 4)
 fascn-small s f = rw (complete s (f .0) (f .1), agencyOf, systemOf) (f .1 .in-range .agency, f .1 .in-range .system)
@@ -184,7 +173,8 @@ record Side (k t : ℕ) (vs : Values) : Type 0 where
   kind : IsKind k
   date : t < 10 ^ 8
   allowed : Allowed t (table k) vs
-  bytes : (i : ℕ) → Bytes (rowValue vs i)
+  bytes : (tag : ℕ) → Bytes (taggedValue (table k) vs tag)
+  fits : (tag : ℕ) → taggedRow (table k) tag .optional ≡ false → Fits t (taggedRow (table k) tag) (taggedValue (table k) vs tag)
 
 side : (k t : ℕ) (vs : Values) (c : List ℕ) → Bytes c → Conforms k t vs c → Side k t vs
 side k t vs c b h =
@@ -195,7 +185,8 @@ side k t vs c b h =
       kind = h .kind-is;
       date = rw e (small x .2);
       allowed = h .allowed;
-      bytes = λ i. value-bytes t i (table k) vs (h .allowed) (bytes-back (lengthBytes (length rows)) rows (bc .1));
+      bytes = λ tag. value-bytes tag (table k) vs (bytes-back (lengthBytes (length rows)) rows (bc .1));
+      fits = λ tag o. value-fits t tag (table k) vs o (h .allowed);
     }
 
 expiry-small : (t : ℕ) (v : List ℕ) → Keeps Expiry t v → textNumber v < 10 ^ 8
@@ -205,28 +196,20 @@ open-reads : (k t u : ℕ) (vs ws : Values) → Side k t vs → Side k u ws → 
 open-reads zero t u vs ws a b = absurd (omega (arith, a .kind .0))
 open-reads (suc zero) t u vs ws a b = so (λ z. refl) (given (openPart model))
 open-reads (suc (suc zero)) t u vs ws a b =
-    card-open-reads _ _ _ _ _ _
-    (fascn-small _ (row-fits t 1 chuid vs (omega arith) refl (a .allowed) .rule))
-    (fascn-small _ (row-fits u 1 chuid ws (omega arith) refl (b .allowed) .rule))
-    (expiry-small t _ (row-fits t 5 chuid vs (omega arith) refl (a .allowed) .rule))
-    (expiry-small u _ (row-fits u 5 chuid ws (omega arith) refl (b .allowed) .rule))
+    card-open-reads _ _ _ _ _ _ (fascn-small _ (a .fits 0x30 refl .rule)) (fascn-small _ (b .fits 0x30 refl .rule))
+    (expiry-small t _ (a .fits 0x35 refl .rule)) (expiry-small u _ (b .fits 0x35 refl .rule))
 open-reads (suc (suc (suc zero))) t u vs ws a b =
-    policy-reads (rowValue vs 1) (rowValue ws 1) (a .bytes 1) (b .bytes 1)
-    (row-long 2 _ (row-fits t 1 discovery vs (omega arith) refl (a .allowed) .long))
-    (row-long 2 _ (row-fits u 1 discovery ws (omega arith) refl (b .allowed) .long))
-open-reads (suc (suc (suc (suc zero)))) t u vs ws a b =
-    issuer-reads (rowValue vs 4) (rowValue ws 4)
-    (row-long 15 _ (row-fits t 4 printed vs (omega arith) refl (a .allowed) .long))
-    (row-long 15 _ (row-fits u 4 printed ws (omega arith) refl (b .allowed) .long))
+    policy-reads _ _ (a .bytes 0x5F2F) (b .bytes 0x5F2F) (row-long 2 _ (a .fits 0x5F2F refl .long)) (row-long 2 _ (b .fits 0x5F2F refl .long))
+open-reads (suc (suc (suc (suc zero)))) t u vs ws a b = issuer-reads _ _ (row-long 15 _ (a .fits 0x06 refl .long)) (row-long 15 _ (b .fits 0x06 refl .long))
 open-reads (suc (suc (suc (suc (suc zero))))) t u vs ws a b = so (λ z. refl) (given (openPart nothing))
 open-reads (suc (suc (suc (suc (suc (suc zero)))))) t u vs ws a b =
     holder-reads _ _ _ _
-    (fascn-small _ (fascn-inside fingers (rowValue vs 0) (a .bytes 0) (row-fits t 0 fingerRows vs (omega arith) refl (a .allowed) .rule)))
-    (fascn-small _ (fascn-inside fingers (rowValue ws 0) (b .bytes 0) (row-fits u 0 fingerRows ws (omega arith) refl (b .allowed) .rule)))
+    (fascn-small _ (fascn-inside fingers _ (a .bytes 0xBC) (a .fits 0xBC refl .rule)))
+    (fascn-small _ (fascn-inside fingers _ (b .bytes 0xBC) (b .fits 0xBC refl .rule)))
 open-reads (suc (suc (suc (suc (suc (suc (suc zero))))))) t u vs ws a b =
     holder-reads _ _ _ _
-    (fascn-small _ (fascn-inside face (rowValue vs 0) (a .bytes 0) (row-fits t 0 faceRows vs (omega arith) refl (a .allowed) .rule)))
-    (fascn-small _ (fascn-inside face (rowValue ws 0) (b .bytes 0) (row-fits u 0 faceRows ws (omega arith) refl (b .allowed) .rule)))
+    (fascn-small _ (fascn-inside face _ (a .bytes 0xBC) (a .fits 0xBC refl .rule)))
+    (fascn-small _ (fascn-inside face _ (b .bytes 0xBC) (b .fits 0xBC refl .rule)))
 open-reads (suc (suc (suc (suc (suc (suc (suc (suc k)))))))) t u vs ws a b = absurd (omega (arith, a .kind .1))
 
 -- ---- the whole

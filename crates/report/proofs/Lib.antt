@@ -1,3 +1,4 @@
+pub mod Valued
 pub mod Bound
 pub mod Lines
 pub mod Opens

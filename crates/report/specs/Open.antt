@@ -5,9 +5,10 @@ use mathlib.Core.Bool.{cond}
 use mathlib.Core.Option.{Option, none, some}
 use mathlib.Core.List.{List, [], _∷_}
 use lib.Dec.{eqb}
-use lib.ListN.{length, getD, take, drop}
+use lib.ListN.{length, take, drop}
 use Rattle.fascn.specs.Reading.{decoded}
 use Rattle.dates.specs.Date.{textNumber}
+use Rattle.kinds.specs.Tables.{Table, table}
 use Rattle.container.specs.Container.{Values}
 
 -- the open values of a container
@@ -19,13 +20,16 @@ pub data Open : Type 0 where
   policy : List ℕ → Open  -- two bytes
   issuer : List ℕ → Open  -- fifteen bytes
 
--- the value of a row, counted from 0; no bytes where it is absent
-abbrev pub valueOr : Option (List ℕ) → List ℕ
-valueOr none = []
-valueOr (some v) = v
+-- the bytes of a value, none where it is absent
+abbrev pub bytesOf : Option (List ℕ) → List ℕ
+bytesOf none = []
+bytesOf (some v) = v
 
-abbrev pub rowValue : Values → ℕ → List ℕ
-rowValue vs row = valueOr (getD vs row none)
+-- the value with a tag, of the values of a table's rows: no bytes where no row has the tag
+abbrev pub taggedValue : Table → Values → ℕ → List ℕ
+taggedValue [] vs tag = []
+taggedValue (r ∷ rs) [] tag = []
+taggedValue (r ∷ rs) (o ∷ vs) tag = cond (eqb tag (r .tag)) (bytesOf o) (taggedValue rs vs tag)
 
 -- the agency and the system of a FASC-N
 abbrev pub agencyOf : List ℕ → ℕ
@@ -34,19 +38,21 @@ agencyOf f = decoded f .numbers .agency
 abbrev pub systemOf : List ℕ → ℕ
 systemOf f = decoded f .numbers .system
 
--- the FASC-N of a biometric record stands at 59 of the value of BC
+-- the FASC-N of a CBEFF header: 25 bytes after the 59 of the fields before it
 abbrev pub inHeader : List ℕ → List ℕ
 inHeader v = take 25 (drop 59 v)
 
--- the rows: 30 and 35 of a CHUID are 1 and 5, 5F2F of DISCOVERY is 1, 06 of PRINTED is 4, BC is 0
+-- the open values, by the tags that 01 gives them in "Container form": the CHUID's FASC-N is 30 and its expiry 35, the policy of DISCOVERY 5F2F, the
+-- issuer of PRINTED 06, the record of FINGERS and FACE BC
 abbrev pub openOf : ℕ → Values → Open
 openOf kind vs =
-    cond (eqb kind 1) model
-    (cond (eqb kind 2) (card (agencyOf (rowValue vs 1)) (systemOf (rowValue vs 1)) (textNumber (rowValue vs 5)))
-    (cond (eqb kind 3) (policy (rowValue vs 1))
-    (cond (eqb kind 4) (issuer (rowValue vs 4))
-    (cond (eqb kind 5) nothing
-    (holder (agencyOf (inHeader (rowValue vs 0))) (systemOf (inHeader (rowValue vs 0))))))))
+    let value : ℕ → List ℕ = taggedValue (table kind) vs in
+    cond (eqb kind 1) model  -- "CCC `model 10`"
+    (cond (eqb kind 2) (card (agencyOf (value 0x30)) (systemOf (value 0x30)) (textNumber (value 0x35)))  -- "CHUID agency, system, expires"
+    (cond (eqb kind 3) (policy (value 0x5F2F))  -- "DISCOVERY `policy`"
+    (cond (eqb kind 4) (issuer (value 0x06))  -- "PRINTED `issuer` and tag 06"
+    (cond (eqb kind 5) nothing  -- "SECURITY none"
+    (holder (agencyOf (inHeader (value 0xBC))) (systemOf (inHeader (value 0xBC))))))))  -- "FINGERS and FACE agency, system"
 
 -- which rows are there, and how long their values are: "tags and lengths are open"
 abbrev pub shape : Values → List (Option ℕ)

@@ -13,10 +13,10 @@ ghost use Rattle.container.specs.Container.{Values, Conforms};
 ghost use Rattle.container.specs.Reading.{parsed};
 ghost use Rattle.fascn.specs.Reading.{decoded};
 ghost use Rattle.dates.specs.Date.{dateOf};
-ghost use Rattle.report.specs.Open.{holder, card, policy, issuer, agencyOf, systemOf, inHeader, openOf};
+ghost use Rattle.report.specs.Open.{holder, card, policy, issuer, taggedValue, agencyOf, systemOf, inHeader, openOf};
 ghost use Rattle.report.specs.Report.{kindName, number, digitsLine, cardPart, elementLine, elementLines, elementCount, elementsPart, openPart, reportText};
 ghost use Rattle.report.specs.Calls.{reportOutput};
-ghost use Rattle.report.specs.Writers.{Writes, tagged, dayNumber};
+ghost use Rattle.report.specs.Writers.{Writes, dayNumber};
 use container::Found;
 use dates::Date;
 use fascn::Decoded;
@@ -151,7 +151,7 @@ fn put_elements(kind: u64, c: &[u8], out: &mut [u8]) -> usize
 
 // The value with this tag of a container that conforms, and no bytes where there is none.
 fn value<'a>(kind: u64, tag: u64, c: &'a [u8]) -> &'a [u8]
-    ensures { λ r. ⌜ ((today : ℕ) (vs : Values) → Conforms kind today vs (now (c .entry)) → now r ≡ tagged kind tag vs) ⌝ }
+    ensures { λ r. ⌜ ((today : ℕ) (vs : Values) → Conforms kind today vs (now (c .entry)) → now r ≡ taggedValue (table kind) vs tag) ⌝ }
 {
     match views::sought(kind, tag, c) {
         Found::Absent => &c[0..0],

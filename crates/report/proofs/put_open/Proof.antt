@@ -26,7 +26,7 @@ returns-2 c =
     record {
       put =
           λ today vs h.
-          same-text (chuid-open (a .kind) today vs (a .c .now) _ _ (m .match .keys2) h (f .value .ensures today vs h) (e .value2 .ensures today vs h)) (p .put-chuid .ensures);
+          same-text (chuid-open (a .kind) vs (m .match .keys2) h (f .value .ensures today vs h) (e .value2 .ensures today vs h)) (p .put-chuid .ensures);
       inside = search needs;
     }
 
@@ -37,7 +37,7 @@ returns-3 c =
     let m = v .before in
     let a = m .before .before .before .args in
     record {
-      put = λ today vs h. same-text (discovery-open (a .kind) today vs (a .c .now) _ (m .match .keys3) (v .value3 .ensures today vs h)) (p .put-policy .ensures);
+      put = λ today vs h. same-text (discovery-open (a .kind) vs (m .match .keys3) (v .value3 .ensures today vs h)) (p .put-policy .ensures);
       inside = search needs;
     }
 
@@ -48,7 +48,7 @@ returns-4 c =
     let m = v .before in
     let a = m .before .before .before .args in
     record {
-      put = λ today vs h. same-text (printed-open (a .kind) today vs (a .c .now) _ (m .match .keys4) (v .value4 .ensures today vs h)) (p .put-issuer .ensures);
+      put = λ today vs h. same-text (printed-open (a .kind) vs (m .match .keys4) (v .value4 .ensures today vs h)) (p .put-issuer .ensures);
       inside = search needs;
     }
 
@@ -70,7 +70,7 @@ returns-6 c =
       put =
           λ today vs h.
           same-text
-          (biometric-open (a .kind) today vs (a .c .now) _ (none .0 .0 .0 .0 .1) (none .0 .0 .0 .1) (none .0 .0 .1) (none .0 .1) (none .1) (h .kind-is) (v .value5 .ensures today vs h))
+          (biometric-open (a .kind) vs (none .0 .0 .0 .0 .1) (none .0 .0 .0 .1) (none .0 .0 .1) (none .0 .1) (none .1) (v .value5 .ensures today vs h))
           (p .put-biometric .ensures);
       inside = search needs;
     }
