@@ -122,13 +122,16 @@ encode-clean n d e k l =
     ]
   where
     empty : (f : Fault) → k ≡ numberOf f → e ≡ filled [] (length d) → (k ≡ 0 → ⊥) × Clean d e k 0
-    empty f a q = (λ z. never-zero f (sym a ∙ z), rw q (record {
-      by-number = inr (f, a);
-      same-room = length-filled [] (length d) (omega arith);
-      refused = λ z. sym (filled-none (length d));
-      inside = omega arith;
-      behind = back [] (length d);
-    }))
+    empty f a q = (
+      λ z. never-zero f (sym a ∙ z),
+      rw q (record {
+        by-number = inr (f, a);
+        same-room = length-filled [] (length d) (omega arith);
+        refused = λ z. sym (filled-none (length d));
+        inside = omega arith;
+        behind = back [] (length d);
+      }),
+    )
 
     whole : k ≡ 0 → 25 ≤ length d → e ≡ filled (encoded n) (length d) → Clean d e k 25
     whole z h q =
