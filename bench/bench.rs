@@ -1,0 +1,509 @@
+//! The calls of Prosianek and of the independent Rust program on the same inputs. bench/run builds and runs this.
+//!
+//!     bench count                    makes each call once between the markers of icount.c; run under QEMU with that plugin
+//!     bench time                     prints nanoseconds a call, a line each
+//!     bench tables COUNTS [TIMES]    prints the tables of what the plugin and `bench time` wrote
+//!     bench where COUNTS             prints which functions the instructions are in, the worst ratio first
+//!
+//! All go over the same cases in the same order, for each first Prosianek, then Rust.
+
+use second::card::{kind_of, Rule};
+use std::arch::asm;
+use std::ops::{Deref, DerefMut};
+use std::time::Instant;
+
+#[link(name = "capi", kind = "static")]
+extern "C" {
+    fn prosianek_check(kind: u64, today: u64, container: *const u8, size: usize, place: *mut u64) -> u64;
+    fn prosianek_read(
+        kind: u64,
+        today: u64,
+        container: *const u8,
+        size: usize,
+        sheet: *mut u8,
+        room: usize,
+        place: *mut u64,
+        length: *mut u64,
+    ) -> u64;
+    fn prosianek_write(
+        kind: u64,
+        today: u64,
+        sheet: *const u8,
+        size: usize,
+        container: *mut u8,
+        room: usize,
+        place: *mut u64,
+        length: *mut u64,
+    ) -> u64;
+    fn prosianek_report(
+        kind: u64,
+        today: u64,
+        container: *const u8,
+        size: usize,
+        room: *mut u8,
+        room_size: usize,
+        length: *mut u64,
+    ) -> u64;
+    fn prosianek_fascn_decode(bytes: *const u8, size: usize, numbers: *mut u64) -> u64;
+    fn prosianek_fascn_encode(numbers: *const u64, room: *mut u8, size: usize) -> u64;
+}
+
+const TODAY: u64 = 2026_03_01;
+const LARGEST: usize = second::CONTAINER_MAX;
+
+// ---------------------------------------------------------------------------------------------
+// What is done with a call: it is made, counted or timed
+
+trait Meter {
+    fn measure<A>(&mut self, call: impl FnMut() -> A) -> A;
+}
+
+/// One call, unmeasured.
+struct Made;
+
+impl Meter for Made {
+    fn measure<A>(&mut self, mut call: impl FnMut() -> A) -> A {
+        call()
+    }
+}
+
+/// One call between the markers.
+struct Counted;
+
+impl Meter for Counted {
+    fn measure<A>(&mut self, mut call: impl FnMut() -> A) -> A {
+        icount_start();
+        let answer = call();
+        icount_stop();
+        answer
+    }
+}
+
+// The plugin knows the markers by name. They must differ, or the compiler makes one function of the two.
+#[no_mangle]
+#[inline(never)]
+extern "C" fn icount_start() {
+    unsafe { asm!("nop") }
+}
+
+#[no_mangle]
+#[inline(never)]
+extern "C" fn icount_stop() {
+    unsafe { asm!("nop", "nop") }
+}
+
+/// So many calls, and the shortest time of one so far.
+struct Timed {
+    calls: u32,
+    best: f64,
+}
+
+impl Meter for Timed {
+    fn measure<A>(&mut self, mut call: impl FnMut() -> A) -> A {
+        let start = Instant::now();
+        for _ in 1..self.calls {
+            keep(&call());
+        }
+        let answer = call();
+        let time = start.elapsed().as_nanos() as f64 / f64::from(self.calls);
+        self.best = self.best.min(time);
+        answer
+    }
+}
+
+/// For the compiler, looks at the value. (std::hint::black_box is younger than Debian 12's rustc.)
+fn keep<A>(value: &A) {
+    unsafe { asm!("/* {} */", in(reg) value) }
+}
+
+// ---------------------------------------------------------------------------------------------
+// The calls
+
+#[derive(Clone, Copy)]
+enum Call {
+    Check,
+    Read,
+    Write,
+    Report,
+    Decode,
+    Encode,
+}
+
+const CONTAINER_CALLS: [(Call, &str); 4] =
+    [(Call::Check, "check"), (Call::Read, "read"), (Call::Write, "write"), (Call::Report, "report")];
+
+struct Case {
+    what: String,
+    name: &'static str,
+    call: Call,
+    kind: u64,
+    input: Bytes,
+    numbers: [u64; 9],
+    room: usize,
+}
+
+/// Bytes that start at a multiple of 64: what memcpy and memset take depends on where they start.
+struct Bytes(Box<Aligned>, usize);
+
+#[repr(align(64))]
+struct Aligned([u8; 2 * LARGEST]);
+
+impl Bytes {
+    fn filled(byte: u8, size: usize) -> Bytes {
+        Bytes(Box::new(Aligned([byte; 2 * LARGEST])), size)
+    }
+
+    fn of(bytes: &[u8]) -> Bytes {
+        let mut copy = Bytes::filled(0, bytes.len());
+        copy.copy_from_slice(bytes);
+        copy
+    }
+}
+
+impl Deref for Bytes {
+    type Target = [u8];
+    fn deref(&self) -> &[u8] {
+        &self.0 .0[..self.1]
+    }
+}
+
+impl DerefMut for Bytes {
+    fn deref_mut(&mut self) -> &mut [u8] {
+        &mut self.0 .0[..self.1]
+    }
+}
+
+/// The numbers that Prosianek answers.
+fn prosianek(case: &Case, room: &mut [u8], meter: &mut impl Meter) -> Vec<u64> {
+    let (kind, input, size) = (case.kind, case.input.as_ptr(), case.input.len());
+    let (to, room_size) = (room.as_mut_ptr(), room.len());
+    let (mut place, mut length, mut numbers) = (0, 0, [0; 9]);
+    let (p, l) = (&mut place as *mut u64, &mut length as *mut u64);
+    let number = unsafe {
+        match case.call {
+            Call::Check => meter.measure(|| prosianek_check(kind, TODAY, input, size, p)),
+            Call::Read => meter.measure(|| prosianek_read(kind, TODAY, input, size, to, room_size, p, l)),
+            Call::Write => meter.measure(|| prosianek_write(kind, TODAY, input, size, to, room_size, p, l)),
+            Call::Report => meter.measure(|| prosianek_report(kind, TODAY, input, size, to, room_size, l)),
+            Call::Decode => meter.measure(|| prosianek_fascn_decode(input, size, numbers.as_mut_ptr())),
+            Call::Encode => meter.measure(|| prosianek_fascn_encode(case.numbers.as_ptr(), to, room_size)),
+        }
+    };
+    [&[number, place, length], &numbers[..]].concat()
+}
+
+/// The numbers that the Rust program answers, in the same layout.
+fn rust(case: &Case, room: &mut [u8], meter: &mut impl Meter) -> Vec<u64> {
+    let (kind, input) = (case.kind, &case.input[..]);
+    let mut numbers = [0; 9];
+    let (number, place, length) = match case.call {
+        Call::Check => {
+            let (number, place) = meter.measure(|| second::check(kind, TODAY, input));
+            (number, place, 0)
+        }
+        Call::Read => meter.measure(|| second::read(kind, TODAY, input, room)),
+        Call::Write => meter.measure(|| second::write(kind, TODAY, input, room)),
+        Call::Report => {
+            let (number, length) = meter.measure(|| second::report(kind, TODAY, input, room));
+            (number, 0, length)
+        }
+        Call::Decode => {
+            let (number, decoded) = meter.measure(|| second::fascn_decode(input));
+            numbers = decoded;
+            (number, 0, 0)
+        }
+        Call::Encode => (meter.measure(|| second::fascn_encode(&case.numbers, room)), 0, 0),
+    };
+    [&[number, place, length], &numbers[..]].concat()
+}
+
+/// Both answer 0 and the same, and leave the same in rooms that held something before.
+fn agree(case: &Case) {
+    let (mut one, mut other) = (Bytes::filled(0xA5, case.room), Bytes::filled(0x5A, case.room));
+    let answers = (prosianek(case, &mut one, &mut Made), rust(case, &mut other, &mut Made));
+    assert!(answers.0 == answers.1 && one[..] == other[..], "{} {}: the answers differ: {:?}", case.what, case.name, answers);
+    assert!(answers.0[0] == 0, "{} {}: refused with {}", case.what, case.name, answers.0[0]);
+}
+
+// ---------------------------------------------------------------------------------------------
+// The inputs: the samples, and the largest containers, which are made of their values
+
+type Values = Vec<Option<Vec<u8>>>;
+
+fn sample(kind: u64) -> Vec<u8> {
+    let names = ["ccc", "chuid", "discovery", "printed", "security", "fingers", "face"];
+    let path = format!("samples/{}.bin", names[kind as usize - 1]);
+    std::fs::read(&path).unwrap_or_else(|error| panic!("{}: {}", path, error))
+}
+
+fn sheet_of(kind: u64, container: &[u8]) -> Vec<u8> {
+    let mut room = vec![0; 2 * LARGEST];
+    let (number, _, length) = second::read(kind, TODAY, container, &mut room);
+    assert!(number == 0, "kind {}: no conforming container", kind);
+    room.truncate(length as usize);
+    room
+}
+
+fn container_of(kind: u64, values: &Values) -> Vec<u8> {
+    let mut sheet = Vec::new();
+    for value in values {
+        let count = value.as_ref().map_or(0, |value| value.len() as u16 + 1);
+        sheet.extend(count.to_be_bytes());
+        sheet.extend(value.iter().flatten());
+    }
+    let mut room = vec![0; LARGEST];
+    let (number, place, length) = second::write(kind, TODAY, &sheet, &mut room);
+    assert!(number == 0, "kind {}: no conforming sheet: {} at {}", kind, number, place);
+    room.truncate(length as usize);
+    room
+}
+
+fn values_of(kind: u64, container: &[u8]) -> Values {
+    let rows = kind_of(kind).unwrap().rows;
+    let value = |tag| match second::view(kind, TODAY, container, tag) {
+        (0, _, value) => Some(value.to_vec()),
+        _ => None,
+    };
+    rows.iter().map(|row| value(u64::from(row.tag))).collect()
+}
+
+/// Printable characters, which suit a text row and one of any bytes.
+fn filling(length: usize) -> Vec<u8> {
+    (b' '..=b'~').cycle().take(length).collect()
+}
+
+/// The kind's row that has no longest value, if there is one: 3E of a CHUID, BC of a biometric record.
+fn endless_row(kind: u64) -> Option<usize> {
+    kind_of(kind).unwrap().rows.iter().position(|row| row.longest > LARGEST)
+}
+
+/// The value of the endless row with so many bytes more: of any kind in 3E, of the signature in BC.
+fn longer(value: &[u8], more: usize) -> Vec<u8> {
+    let mut value = [value, &filling(more)[..]].concat();
+    if value[..2] == [0x03, 0x0D] {
+        let signature = u16::from_be_bytes([value[6], value[7]]) + more as u16;
+        value[6..8].copy_from_slice(&signature.to_be_bytes());
+    }
+    value
+}
+
+/// The container with these values, its endless row lengthened so that it has `total` bytes.
+fn stretched(kind: u64, values: &Values, total: usize) -> Vec<u8> {
+    let row = endless_row(kind).expect("a row that can be long");
+    let mut values = values.clone();
+    let value = values[row].take().expect("the row is there");
+    // 600 more bytes first: then all lengths are written in three bytes, before and after
+    values[row] = Some(longer(&value, 600));
+    let spare = total - container_of(kind, &values).len();
+    values[row] = Some(longer(&value, 600 + spare));
+    container_of(kind, &values)
+}
+
+/// Every row there and as long as it may be.
+fn largest(kind: u64) -> Vec<u8> {
+    let mut values = values_of(kind, &sample(kind));
+    let rows = kind_of(kind).unwrap().rows;
+    let uuid = rows.iter().position(|row| row.rule == Rule::Uuid).map(|row| values[row].clone());
+    for (row, value) in rows.iter().zip(&mut values) {
+        match row.rule {
+            Rule::Any | Rule::Text if row.longest <= LARGEST => *value = Some(filling(row.longest)),
+            Rule::Uuid => *value = uuid.clone().unwrap(),
+            Rule::Fingers => *value = Some(with_minutiae(value.as_ref().unwrap(), 128)),
+            _ => (),
+        }
+    }
+    match endless_row(kind) {
+        Some(_) => stretched(kind, &values, LARGEST),
+        None => container_of(kind, &values),
+    }
+}
+
+/// The fingers' value with so many minutiae in each view, and one byte of signature.
+fn with_minutiae(value: &[u8], count: u8) -> Vec<u8> {
+    let (header, record) = (&value[..88], &value[88..]);
+    let mut data = record[..26].to_vec();
+    for _ in 0..2 {
+        data.extend([1, 0, 100, count]);
+        for i in 0..count {
+            data.extend([0x40 | i & 0x3F, i, i & 0x3F, i, i, i % 101]);
+        }
+        data.extend([0, 0]);
+    }
+    let length = data.len() as u16;
+    data[8..10].copy_from_slice(&length.to_be_bytes());
+    let mut value = [header, &data, &[1]].concat();
+    value[2..6].copy_from_slice(&u32::from(length).to_be_bytes());
+    value[6..8].copy_from_slice(&1u16.to_be_bytes());
+    value
+}
+
+/// The four calls on a container. The rooms of read and write are as long as what is written there, report's has its 512 bytes.
+fn container_cases(what: &str, kind: u64, container: &[u8]) -> Vec<Case> {
+    let sheet = sheet_of(kind, container);
+    let what = format!("{}{}, {} bytes", kind_of(kind).unwrap().name, what, commas(container.len() as u64));
+    CONTAINER_CALLS
+        .iter()
+        .map(|&(call, name)| {
+            let (input, room) = match call {
+                Call::Read => (container, sheet.len()),
+                Call::Write => (&sheet[..], container.len()),
+                Call::Report => (container, second::REPORT_MAX),
+                _ => (container, 0),
+            };
+            Case { what: what.clone(), name, call, kind, input: Bytes::of(input), numbers: [0; 9], room }
+        })
+        .collect()
+}
+
+fn fascn_cases() -> Vec<Case> {
+    let chuid = sample(2);
+    let (_, _, fascn) = second::view(2, TODAY, &chuid, 0x30);
+    let (_, numbers) = second::fascn_decode(fascn);
+    let case = |name, call, room| Case {
+        what: "FASC-N, 25 bytes".to_string(),
+        name,
+        call,
+        kind: 2,
+        input: Bytes::of(fascn),
+        numbers,
+        room,
+    };
+    vec![case("decode", Call::Decode, 0), case("encode", Call::Encode, fascn.len())]
+}
+
+/// The tables, each with a title.
+fn tables() -> Vec<(&'static str, Vec<Case>)> {
+    let mut kinds = Vec::new();
+    for kind in 1..=7 {
+        let (typical, largest) = (sample(kind), largest(kind));
+        kinds.extend(container_cases(" typical", kind, &typical));
+        if largest.len() > typical.len() {
+            kinds.extend(container_cases(" largest", kind, &largest));
+        }
+    }
+    kinds.extend(fascn_cases());
+
+    let chuid = values_of(2, &sample(2));
+    let sizes = [1, 2, 4, 8, 16, 32].iter().map(|kib| kib * 1024);
+    let growth = sizes.flat_map(|size| container_cases("", 2, &stretched(2, &chuid, size))).collect();
+    vec![("Each kind, typical and largest", kinds), ("From 1 KiB to 32 KiB", growth)]
+}
+
+// ---------------------------------------------------------------------------------------------
+// The commands
+
+fn count() {
+    Counted.measure(|| ());
+    for case in tables().iter().flat_map(|(_, cases)| cases) {
+        agree(case);
+        let mut room = Bytes::filled(0, case.room);
+        prosianek(case, &mut room, &mut Counted);
+        rust(case, &mut room, &mut Counted);
+    }
+}
+
+/// The two sides in turn, in rounds of some 20 microseconds; the best round counts. There are ten passes over all cases, so that
+/// what disturbs the machine for a moment spoils no case.
+fn time() {
+    let mut timed = Vec::new();
+    for case in tables().into_iter().flat_map(|(_, cases)| cases) {
+        agree(&case);
+        let mut room = Bytes::filled(0, case.room);
+        let mut warm = Timed { calls: 100, best: f64::MAX };
+        rust(&case, &mut room, &mut warm);
+        let calls = (20_000.0 / warm.best) as u32 + 1;
+        timed.push((case, room, Timed { calls, best: f64::MAX }, Timed { calls, best: f64::MAX }));
+    }
+    for _ in 0..10 {
+        for (case, room, first, second) in &mut timed {
+            for _ in 0..50 {
+                prosianek(case, room, first);
+                rust(case, room, second);
+            }
+        }
+    }
+    for (_, _, first, second) in timed {
+        println!("{}\n{}", first.best, second.best);
+    }
+}
+
+fn lines(path: &str) -> Vec<String> {
+    let text = std::fs::read_to_string(path).unwrap_or_else(|error| panic!("{}: {}", path, error));
+    text.lines().map(str::to_string).collect()
+}
+
+/// The number at the front of each line.
+fn numbers(path: &str) -> Vec<f64> {
+    lines(path).iter().map(|line| line.split(' ').next().unwrap().parse().unwrap()).collect()
+}
+
+/// Instructions a call by Prosianek and by Rust, for each case: the first count is that of nothing between the markers.
+fn pairs(counts: &str) -> Vec<(f64, f64)> {
+    let counts = numbers(counts);
+    counts[1..].chunks_exact(2).map(|pair| (pair[0] - counts[0], pair[1] - counts[0])).collect()
+}
+
+fn commas(number: u64) -> String {
+    match number {
+        0..=999 => number.to_string(),
+        _ => format!("{},{:03}", commas(number / 1000), number % 1000),
+    }
+}
+
+fn print_tables(counts: &str, times: Option<&str>) {
+    let mut counts = pairs(counts).into_iter();
+    let times = times.map(numbers);
+    let mut times = times.as_ref().map(|times| times.chunks_exact(2));
+    for (title, cases) in tables() {
+        println!("### {}\n", title);
+        print!("| Container | Call | Rattle | Rust | Ratio |");
+        println!("{}", if times.is_some() { " Rattle, ns | Rust, ns | Ratio |" } else { "" });
+        println!("|---|---|--:|--:|--:|{}", if times.is_some() { "--:|--:|--:|" } else { "" });
+        for case in cases {
+            let (rattle, rust) = counts.next().unwrap();
+            print!("| {} | {} ", case.what, case.name);
+            print!("| {} | {} | {:.2} |", commas(rattle as u64), commas(rust as u64), rattle / rust);
+            if let Some(times) = &mut times {
+                let pair = times.next().unwrap();
+                print!(" {:.0} | {:.0} | {:.2} |", pair[0], pair[1], pair[0] / pair[1]);
+            }
+            println!();
+        }
+        println!();
+    }
+}
+
+fn print_where(counts: &str) {
+    let functions = |line: &str| {
+        let mut list: Vec<(u64, &str)> = line
+            .split(' ')
+            .filter_map(|word| word.split_once('='))
+            .map(|(name, count)| (count.parse().unwrap(), name))
+            .filter(|&(_, name)| !name.contains("icount") && !name.contains("bench"))
+            .collect();
+        list.sort_unstable_by(|one, other| other.cmp(one));
+        list.iter().map(|(count, name)| format!("{} {}", name, count)).collect::<Vec<_>>().join(", ")
+    };
+    let (pairs, lines) = (pairs(counts), lines(counts));
+    let cases: Vec<Case> = tables().into_iter().flat_map(|(_, cases)| cases).collect();
+    let ratio = |i: usize| pairs[i].0 / pairs[i].1;
+    let mut order: Vec<usize> = (0..cases.len()).collect();
+    order.sort_by(|&one, &other| ratio(other).partial_cmp(&ratio(one)).unwrap());
+    for i in order {
+        println!("{:.2} {}, {}: {} to {}", ratio(i), cases[i].what, cases[i].name, pairs[i].0, pairs[i].1);
+        println!("    Rattle: {}", functions(&lines[1 + 2 * i]));
+        println!("    Rust: {}", functions(&lines[2 + 2 * i]));
+    }
+}
+
+fn main() {
+    let arguments: Vec<String> = std::env::args().skip(1).collect();
+    match arguments.iter().map(|word| &word[..]).collect::<Vec<_>>()[..] {
+        ["count"] => count(),
+        ["time"] => time(),
+        ["tables", counts] => print_tables(counts, None),
+        ["tables", counts, times] => print_tables(counts, Some(times)),
+        ["where", counts] => print_where(counts),
+        _ => panic!("usage: bench count | time | tables COUNTS [TIMES] | where COUNTS"),
+    }
+}
