@@ -78,7 +78,8 @@ fn exclusive(v: [u8; 40]) -> u8
 
 // ---- reading
 
-// 25 bytes as forty characters: five bytes hold eight.
+// 25 bytes as forty characters: five bytes hold eight. This stays a call: who makes it hands over a part that is made for it,
+// and keeps the bytes' own address and length in registers.
 fn unpack(s: &[u8]) -> [u8; 40]
     requires { ⌜ length (now s) ≡ 25 ⌝ }
     ensures { λ r. ⌜ r ≡ groups 256 5 32 8 5 0 (now (s .entry)) ⌝ }
@@ -188,7 +189,7 @@ pub fn is_fascn(bytes: &[u8]) -> bool
     if bytes.len() != 25 {
         return false;
     }
-    is_framed(values_of(unpack(bytes)))
+    is_framed(values_of(unpack(&bytes[0..])))
 }
 
 // The numbers of 25 conforming bytes, or a refusal.
@@ -198,7 +199,7 @@ pub fn decode(bytes: &[u8]) -> Decoded
     if bytes.len() != 25 {
         return refuse();
     }
-    let v = values_of(unpack(bytes));
+    let v = values_of(unpack(&bytes[0..]));
     if !is_framed(v) {
         return refuse();
     }

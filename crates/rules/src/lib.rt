@@ -39,7 +39,9 @@ fn date(d: Date) -> Rule
     }
 }
 
-// Whether a value keeps the rule under the date today, or which fault it has.
+// Whether a value keeps the rule under the date today, or which fault it has. The judge of the biometric records stays a
+// call: it gets a part that is made for it, and its answer goes through a local, so that the compiler keeps the value and
+// the answer of every other rule in registers.
 fn judge_value(rule: ValueRule, today: u64, v: &[u8]) -> Rule
     ensures { λ r. ⌜ r ≡ ruleOf rule today (now (v .entry)) ⌝ }
 {
@@ -56,8 +58,14 @@ fn judge_value(rule: ValueRule, today: u64, v: &[u8]) -> Rule
         ValueRule::Policy => unless(Fault::BadFixed, plain::is_policy(v)),
         ValueRule::Text => unless(Fault::BadText, plain::is_text(v)),
         ValueRule::Date => date(dates::date_of(v)),
-        ValueRule::Fingers => cbeff::judge(fingers(), v),
-        ValueRule::Face => cbeff::judge(face(), v),
+        ValueRule::Fingers => {
+            let answer = cbeff::judge(fingers(), &v[0..]);
+            answer
+        }
+        ValueRule::Face => {
+            let answer = cbeff::judge(face(), &v[0..]);
+            answer
+        }
     }
 }
 

@@ -6,6 +6,7 @@ use denote.Ref.{now}
 use borrow.Author.Needs.{needs}
 use borrow.Author.Tests.{not-true, not-false}
 use Rattle.laws.proofs.Bases.{below-of}
+use Rattle.laws.proofs.Turns.{rest}
 use Rattle.fascn.specs.Reading.{valueOf, valuesOf, framed, fields, success}
 use Rattle.fascn.proofs.Packing.{values-groups}
 use Rattle.fascn.proofs.Codec.{other-length, not-framed, well-framed}
@@ -13,13 +14,13 @@ use Rattle.fascn.proofs.decode.Statement.{statement}
 use Rattle.fascn.proofs.decode.Tie as tie
 
 -- the values that are judged are those of the bytes
-read : (c : tie.After-values-of) → c .values-of .result ≡ valuesOf (now (c .before .before .before .before .args .bytes))
+read : (c : tie.After-values-of) → c .values-of .result ≡ valuesOf (now (c .before .before .before .before .before .args .bytes))
 read c =
-    let s = now (c .before .before .before .before .args .bytes) in
-    c .values-of .ensures ∙ ap (map valueOf) (c .before .unpack .ensures)
-    ∙ values-groups s (below-of 256 s (λ k. c .before .before .before .shared-slice-known .given k .fits)) (omega arith)
+    let s = now (c .before .before .before .before .before .args .bytes) in
+    c .values-of .ensures ∙ ap (map valueOf) (rw (rest s 0) at (c .before .unpack .ensures))
+    ∙ values-groups s (below-of 256 s (λ k. c .before .before .before .before .shared-slice-known .given k .fits)) (omega arith)
 
-judged : (c : tie.After-is-framed) → c .is-framed .result ≡ framed (valuesOf (now (c .before .before .before .before .before .args .bytes)))
+judged : (c : tie.After-is-framed) → c .is-framed .result ≡ framed (valuesOf (now (c .before .before .before .before .before .before .args .bytes)))
 judged c = c .is-framed .ensures ∙ ap framed (read (c .before))
 
 returns : tie.Need-returns
@@ -40,6 +41,9 @@ decode-spec =
     (tie.spec
     (λ c κs. search needs)
     returns
+    (λ c. search needs)
+    (λ c. search needs)
+    (λ c. search needs)
     (λ c κs. search needs)
     (λ c κs. search needs)
     (λ c κs. search needs)

@@ -5,6 +5,7 @@ use native.Mathlib.Omega.{arith}
 use denote.Ref.{now}
 use borrow.Author.Needs.{needs}
 use Rattle.laws.proofs.Bases.{below-of}
+use Rattle.laws.proofs.Turns.{rest}
 use Rattle.fascn.specs.Reading.{valueOf, valuesOf, framed}
 use Rattle.fascn.proofs.Packing.{values-groups}
 use Rattle.fascn.proofs.Codec.{no-fascn, is-framed-fascn}
@@ -13,12 +14,12 @@ use Rattle.fascn.proofs.is_fascn.Tie as tie
 
 returns-2 : tie.Need-returns-2
 returns-2 c =
-    let b = c .before .before .before .before in
+    let b = c .before .before .before .before .before in
     let s = now (b .before .args .bytes) in
     c .is-framed .ensures
-    ∙ ap framed (c .before .values-of .ensures ∙ ap (map valueOf) (c .before .before .unpack .ensures) ∙ values-groups s (below-of 256 s (λ k. b .shared-slice-known .given k .fits)) (omega arith))
+    ∙ ap framed (c .before .values-of .ensures ∙ ap (map valueOf) (rw (rest s 0) at (c .before .before .unpack .ensures)) ∙ values-groups s (below-of 256 s (λ k. b .shared-slice-known .given k .fits)) (omega arith))
     ∙ is-framed-fascn s (omega arith)
 
 pub is-fascn-spec : {M : Type 1} → statement M
 is-fascn-spec =
-    tie.close (tie.spec (λ c. no-fascn _ (c .if1 .taken)) (λ c κs. search needs) (λ c κs. search needs) (λ c κs. search needs) returns-2)
+    tie.close (tie.spec (λ c. no-fascn _ (c .if1 .taken)) (λ c. search needs) (λ c. search needs) (λ c. search needs) (λ c κs. search needs) (λ c κs. search needs) (λ c κs. search needs) returns-2)

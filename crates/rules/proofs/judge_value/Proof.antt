@@ -1,5 +1,6 @@
 -- `rules::judge_value` meets its contract: an arm for each rule. Assumes nothing.
 use borrow.Author.Needs.{needs}
+use Rattle.laws.proofs.Turns.{rest}
 use Rattle.rules.specs.Rules.{ruleOf}
 use Rattle.rules.proofs.judge_value.Statement.{statement}
 use Rattle.rules.proofs.judge_value.Tie as tie
@@ -42,11 +43,15 @@ returns-9 c = rw (c .date .ensures, c .before .date-of2 .ensures, c .before .bef
 
 returns-10 : tie.Need-returns-10
 unfolding ruleOf
-returns-10 c = rw (c .judge .ensures, c .before .fingers .ensures, c .before .before .enum-told10 .given .1)
+returns-10 c =
+    let t = c .before .before .before in
+    rw (c .judge .ensures, rest (t .before .before .before .args .v .now) 0, c .before .before .fingers .ensures, t .enum-told10 .given .1)
 
 returns-11 : tie.Need-returns-11
 unfolding ruleOf
-returns-11 c = rw (c .judge2 .ensures, c .before .face .ensures, c .before .before .enum-told11 .given .1)
+returns-11 c =
+    let t = c .before .before .before in
+    rw (c .judge2 .ensures, rest (t .before .before .before .args .v .now) 0, c .before .before .face .ensures, t .enum-told11 .given .1)
 
 pub judge-value-spec : {M : Type 1} → statement M
 judge-value-spec =
@@ -81,9 +86,15 @@ judge-value-spec =
     (λ c κs. search needs)
     (λ c. search needs)
     (λ c κs. search needs)
+    (λ c. search needs)
+    (λ c. search needs)
+    (λ c. search needs)
     (λ c κs. search needs)
     (λ c. search needs)
     (λ c κs. search needs)
+    (λ c. search needs)
+    (λ c. search needs)
+    (λ c. search needs)
     (λ c κs. search needs)
     returns
     returns-2
