@@ -1,10 +1,10 @@
 // The lent room: cleared, and bytes laid into it one after the other. Where the room ends, so does the text: no writer
 // asks anything of its caller, and none writes past the room.
 ghost use mathlib.Core.Path.{_≡_};
-ghost use mathlib.Core.List.{[], _∷_};
+ghost use mathlib.Core.List.{[], _∷_, _++_};
 ghost use mathlib.Core.Logic.{_⊎_};
-ghost use Prim.Native.Nat.{_≤_};
-ghost use lib.ListN.{length};
+ghost use Prim.Native.Nat.{_<_, _≤_};
+ghost use lib.ListN.{length, take, drop};
 ghost use Rattle.laws.specs.Room.{zeros, Put};
 
 // The room is all zeros.
@@ -38,15 +38,39 @@ fn fewer(a: usize, b: usize) -> usize
     b
 }
 
+// The first bytes of s, over the front of out.
+fn copy(s: &[u8], count: usize, out: &mut [u8])
+    requires { ⌜ (count ≤ length (now s)) × (count ≤ length (now out)) ⌝ }
+    ensures { λ _. ⌜ now (out .exit) ≡ take count (now (s .entry)) ++ drop count (now (out .entry)) ⌝ }
+{
+    let mut i = 0;
+    while i < count {
+        out[i] = s[i];
+        i += 1;
+    }
+}
+
+// The same, for a block at most. The bytes go through an array, which lies apart from both slices: so the compiler sees that
+// it may move the whole block at once, by memmove, and then needs no array.
+fn copy_block(s: &[u8], count: usize, out: &mut [u8]) -> usize
+    requires { ⌜ (0 < count) × (count ≤ length (now s)) × (count ≤ length (now out)) ⌝ }
+    ensures { λ r. ⌜ (0 < r) × (r ≤ count) × (now (out .exit) ≡ take r (now (s .entry)) ++ drop r (now (out .entry))) ⌝ }
+{
+    let size = fewer(count, 4096);
+    let mut block = [0u8; 4096];
+    copy(s, size, &mut block);
+    copy(&block, size, out);
+    size
+}
+
 // The bytes of s.
 pub fn put_all(s: &[u8], out: &mut [u8]) -> usize
     ensures { λ r. ⌜ Put (now (s .entry)) (now (out .entry)) (now (out .exit)) r ⌝ }
 {
     let count = fewer(s.len(), out.len());
-    let mut i = 0;
-    while i < count {
-        out[i] = s[i];
-        i += 1;
+    let mut at = 0;
+    while at < count {
+        at += copy_block(&s[at..], count - at, &mut out[at..]);
     }
     count
 }
