@@ -133,6 +133,23 @@ pub put-filled : {p d e : List ℕ} {k n : ℕ} → d ≡ zeros k → length p �
 unfolding filled
 put-filled {p} {d} {e} {k} {n} z h v = (rw z at (v .room) ∙ laid-zeros p k h, rw z at (v .count) ∙ taken-zeros p k h)
 
+laid-front : (p d : List ℕ) → length p ≤ length d → take (length p) (laid p d) ≡ p
+laid-front [] d h = refl
+laid-front (x ∷ p) [] h = absurd (not-suc-le-zero h)
+laid-front (x ∷ p) (y ∷ d) h = ap (λ (l : List ℕ). x ∷ l) (laid-front p d (le-of-suc-le-suc h))
+
+-- a whole text into a room with something in it, and what is left of the room cleared
+pub laid-filled : (p d : List ℕ) {e ys : List ℕ} {n : ℕ} → e ≡ laid p d → n ≡ length p → length p ≤ length d → ys ≡ zeros (length (midOf n (length e - n) e))
+    → putMid n (length e - n) e ys ≡ filled p (length d)
+unfolding filled
+laid-filled p d {e} {ys} {n} room size h z =
+    let l : length (drop n e) ≤ length e - n = omega (arith, length-drop n e) in
+    let k : length e ≡ length d = ap length room ∙ length-laid p d in
+    let m : length (drop n e) ≡ length d - length p = omega (arith, length-drop n e) in
+    let f : take n e ≡ p = rw (size, room) (laid-front p d h) in
+    let y : ys ≡ zeros (length d - length p) = z ∙ rw (take-all _ _ l, m) in
+    rw (drop-of-length-le _ l, append-nil, f, y)
+
 -- and the other way round
 pub filled-put : (p : List ℕ) (n : ℕ) → length p ≤ n → Put p (zeros n) (filled p n) (length p)
 unfolding filled

@@ -4,7 +4,7 @@ ghost use mathlib.Core.Path.{_≡_};
 ghost use mathlib.Core.Option.{some};
 ghost use Prim.Native.Nat.{ℕ};
 ghost use lib.ListN.{length};
-ghost use Rattle.laws.specs.Room.{Put};
+ghost use Rattle.laws.specs.Room.{laid, Put};
 ghost use Rattle.verdicts.specs.Output.{Leaves};
 ghost use Rattle.container.specs.Container.{Values, Conforms};
 ghost use Rattle.sheet.specs.Sheet.{count, section, sheetOf};
@@ -31,10 +31,12 @@ fn put_section(value: &[u8], out: &mut [u8]) -> usize
     at + room::put_all(value, &mut out[at..])
 }
 
-// How long the sheet of a container that conforms is: two bytes for each row, and the values.
-fn sheet_size(kind: u64, c: &[u8]) -> usize
-    ensures { λ r. ⌜ ((today : ℕ) (vs : Values) → Conforms kind today vs (now (c .entry)) → r ≡ length (sheetOf vs)) ⌝ }
+// The sheet of a container that conforms, a section for each row, as far as the room goes; and how long it is as a whole: two
+// bytes for each row, and the values.
+fn put_sheet(kind: u64, c: &[u8], out: &mut [u8]) -> usize
+    ensures { λ r. ⌜ ((today : ℕ) (vs : Values) → Conforms kind today vs (now (c .entry)) → (r ≡ length (sheetOf vs)) × (now (out .exit) ≡ laid (sheetOf vs) (now (out .entry)))) ⌝ }
 {
+    let mut at = 0;
     let mut size: usize = 0;
     let mut from = container::first_element(c);
     let mut row: u64 = 0;
@@ -42,9 +44,11 @@ fn sheet_size(kind: u64, c: &[u8]) -> usize
         row += 1;
         match container::found_at(kind, tag, c, from) {
             Found::Absent => {
+                at += put_count(0, &mut out[at..]);
                 size += 2;
             }
             Found::At(start, end) => {
+                at += put_section(&c[start..end], &mut out[at..]);
                 size += 2 + (end - start);
                 from = end;
             }
@@ -53,41 +57,25 @@ fn sheet_size(kind: u64, c: &[u8]) -> usize
     size
 }
 
-// The sheet of a container that conforms, a section for each row.
-fn put_sheet(kind: u64, c: &[u8], out: &mut [u8]) -> usize
-    ensures { λ r. ⌜ ((today : ℕ) (vs : Values) → Conforms kind today vs (now (c .entry)) → Put (sheetOf vs) (now (out .entry)) (now (out .exit)) r) ⌝ }
-{
-    let mut at = 0;
-    let mut from = container::first_element(c);
-    let mut row: u64 = 0;
-    while let Place::Holds(tag, _) = kinds::row_at(kind, row) {
-        row += 1;
-        match container::found_at(kind, tag, c, from) {
-            Found::Absent => {
-                at += put_count(0, &mut out[at..]);
-            }
-            Found::At(start, end) => {
-                at += put_section(&c[start..end], &mut out[at..]);
-                from = end;
-            }
-        }
-    }
-    at
-}
-
-// "Read: check, then 3." The sheet's bytes, and zeros after them: 0; or the fault of the check, or 3, and zeros alone. The
-// room is cleared first, so that every refusal is a plain return.
+// "Read: check, then 3." The sheet's bytes, and zeros after them: 0; or the fault of the check, or 3, and zeros alone. Whether
+// the room is too small shows once the sheet is in it as far as it goes: so a container is gone through once after the check,
+// and only what the sheet leaves of the room is cleared.
 pub fn read(kind: u64, today: u64, container: &[u8], sheet: &mut [u8]) -> Done
     ensures { λ r. ⌜ Leaves (readOutput kind today (now (container .entry)) (length (now (sheet .entry)))) (now (sheet .entry)) (now (sheet .exit)) r ⌝ }
 {
-    room::clear(sheet);
     match container::judge(kind, today, container) {
-        Outcome::Broken(f, place) => verdicts::refused(f, place),
+        Outcome::Broken(f, place) => {
+            room::clear(sheet);
+            verdicts::refused(f, place)
+        }
         Outcome::Fine => {
-            if sheet.len() < sheet_size(kind, container) {
+            let size = put_sheet(kind, container, sheet);
+            if sheet.len() < size {
+                room::clear(sheet);
                 return verdicts::refused(Fault::SmallRoom, 0);
             }
-            verdicts::wrote(put_sheet(kind, container, sheet))
+            room::clear(&mut sheet[size..]);
+            verdicts::wrote(size)
         }
     }
 }
