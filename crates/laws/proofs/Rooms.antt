@@ -123,15 +123,16 @@ laid-zeros [] n h = rw sub-zero
 laid-zeros (x ∷ p) zero h = absurd (omega arith)
 laid-zeros (x ∷ p) (suc n) h = rw suc-sub-suc (ap (λ (l : List ℕ). x ∷ l) (laid-zeros p n (le-of-suc-le-suc h)))
 
-taken-zeros : (p : List ℕ) (n : ℕ) → length p ≤ n → taken p (zeros n) ≡ length p
-taken-zeros [] n h = refl
-taken-zeros (x ∷ p) zero h = absurd (omega arith)
-taken-zeros (x ∷ p) (suc n) h = ap suc (taken-zeros p n (le-of-suc-le-suc h))
+-- a text that fits is taken whole
+pub taken-whole : (p d : List ℕ) → length p ≤ length d → taken p d ≡ length p
+taken-whole [] d h = refl
+taken-whole (x ∷ p) [] h = absurd (not-suc-le-zero h)
+taken-whole (x ∷ p) (y ∷ d) h = ap suc (taken-whole p d (le-of-suc-le-suc h))
 
 -- a whole text into a room that was cleared: the text, and zeros behind it
 pub put-filled : {p d e : List ℕ} {k n : ℕ} → d ≡ zeros k → length p ≤ k → Put p d e n → (e ≡ filled p k) × (n ≡ length p)
 unfolding filled
-put-filled {p} {d} {e} {k} {n} z h v = (rw z at (v .room) ∙ laid-zeros p k h, rw z at (v .count) ∙ taken-zeros p k h)
+put-filled {p} {d} {e} {k} {n} z h v = (rw z at (v .room) ∙ laid-zeros p k h, rw z at (v .count) ∙ taken-whole p (zeros k) (simp length-replicate h))
 
 laid-front : (p d : List ℕ) → length p ≤ length d → take (length p) (laid p d) ≡ p
 laid-front [] d h = refl
@@ -153,7 +154,7 @@ laid-filled p d {e} {ys} {n} room size h z =
 -- and the other way round
 pub filled-put : (p : List ℕ) (n : ℕ) → length p ≤ n → Put p (zeros n) (filled p n) (length p)
 unfolding filled
-filled-put p n h = record { room = sym (laid-zeros p n h); count = sym (taken-zeros p n h); inside = simp length-replicate h }
+filled-put p n h = record { room = sym (laid-zeros p n h); count = sym (taken-whole p (zeros n) (simp length-replicate h)); inside = simp length-replicate h }
 
 -- no text at all: zeros
 pub filled-none : (n : ℕ) → zeros n ≡ filled [] n

@@ -1,4 +1,4 @@
--- The ways out of a call that writes into a room which it cleared first. Assumes nothing.
+-- The ways out of a call that writes into a lent room. Assumes nothing.
 use Prim.Native.Nat.{ℕ, _-_, _≤_}
 use mathlib.Core.Path.{_≡_, sym, _∙_}
 use mathlib.Core.List.{List}
@@ -11,12 +11,12 @@ use Rattle.verdicts.specs.Output.{Output, refusal, text, Leaves}
 use Rattle.verdicts.specs.declared.Fault.{Fault}
 use Rattle.verdicts.specs.declared.Done.{Done}
 
--- a refusal: the room as it was cleared
+-- a refusal: the room was cleared
 pub refuses : {o : Output} {f : Fault} {p : ℕ} (d : List ℕ) {e : List ℕ} {r : Done} → o ≡ refusal f p → e ≡ zeros (length d)
     → r ≡ record { number = numberOf f; place = p; length = 0 } → Leaves o d e r
 refuses d q z a = record { answer = a ∙ rw q; room = z ∙ filled-none (length d) ∙ rw q }
 
--- a success: the whole text over the zeros
+-- a success: the whole text over a room that was cleared
 pub gives : {o : Output} {t : List ℕ} (d : List ℕ) {z e : List ℕ} {n : ℕ} {r : Done} → o ≡ text t → z ≡ zeros (length d) → length t ≤ length d → Put t z e n
     → r ≡ record { number = 0; place = 0; length = n } → Leaves o d e r
 gives d q z h w a =

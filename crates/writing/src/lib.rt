@@ -9,6 +9,7 @@ ghost use Rattle.lengths.specs.Length.{lengthBytes};
 ghost use Rattle.verdicts.specs.Output.{Leaves};
 ghost use Rattle.container.specs.Container.{tagBytes, encode, outerTag};
 ghost use Rattle.writing.specs.Writing.{opened, judged, writeOutput};
+ghost use Rattle.writing.specs.Plans.{Planned};
 ghost use Rattle.writing.specs.Sections.{sectionAt, Inside, held, bodyOf, Small, elementBytes, judgedBy};
 use container::outer_tag;
 use container::permitted;
@@ -35,6 +36,14 @@ enum Body {
     Cut,
     // It is whole: its elements take so many bytes.
     Takes(usize),
+}
+
+// What is to be done with a sheet.
+enum Plan {
+    // It is refused, with the fault and its place.
+    Refuse(Fault, usize),
+    // Its container goes into the room: the elements take so many bytes.
+    Fits(usize),
 }
 
 // A byte as an index: its value, and that it is one of 256.
@@ -219,29 +228,46 @@ fn put_container(kind: u64, s: &[u8], n: usize, out: &mut [u8]) -> usize
     at
 }
 
-// Writes the container of the sheet's values.
-pub fn write(kind: u64, today: u64, sheet: &[u8], container: &mut [u8]) -> Done
-    ensures { λ r. ⌜ Leaves (writeOutput kind today (now (sheet .entry)) (length (now (container .entry)))) (now (container .entry)) (now (container .exit)) r ⌝ }
+// Whether the sheet's values make a container that goes into a room of so many bytes: 1, 2, 5, 15, 16 and the values' rules,
+// then 4, 3.
+fn planned(kind: u64, today: u64, sheet: &[u8], room: usize) -> Plan
+    ensures { λ r. ⌜ Planned kind today (now (sheet .entry)) room r ⌝ }
 {
-    room::clear(container);
     if !kinds::is_kind(kind) {
-        return verdicts::refused(Fault::UnknownKind, 0);
+        return Plan::Refuse(Fault::UnknownKind, 0);
     }
     if !dates::is_date(today) {
-        return verdicts::refused(Fault::NoDate, 0);
+        return Plan::Refuse(Fault::NoDate, 0);
     }
     let Body::Takes(n) = body_length(kind, sheet) else {
-        return verdicts::refused(Fault::TornSheet, 0);
+        return Plan::Refuse(Fault::TornSheet, 0);
     };
     if let Outcome::Broken(f, place) = judge_rows(kind, today, sheet) {
-        return verdicts::refused(f, place);
+        return Plan::Refuse(f, place);
     }
     let size = 1 + lengths::length_width(n) + n;
     if 32768 < size {
-        return verdicts::refused(Fault::LargeContainer, 0);
+        return Plan::Refuse(Fault::LargeContainer, 0);
     }
-    if container.len() < size {
-        return verdicts::refused(Fault::SmallRoom, 0);
+    if room < size {
+        return Plan::Refuse(Fault::SmallRoom, 0);
     }
-    verdicts::wrote(put_container(kind, sheet, n, container))
+    Plan::Fits(n)
+}
+
+// Writes the container of the sheet's values. Only what it leaves of the room is cleared.
+pub fn write(kind: u64, today: u64, sheet: &[u8], container: &mut [u8]) -> Done
+    ensures { λ r. ⌜ Leaves (writeOutput kind today (now (sheet .entry)) (length (now (container .entry)))) (now (container .entry)) (now (container .exit)) r ⌝ }
+{
+    match planned(kind, today, sheet, container.len()) {
+        Plan::Refuse(f, place) => {
+            room::clear(container);
+            verdicts::refused(f, place)
+        }
+        Plan::Fits(n) => {
+            let size = put_container(kind, sheet, n, container);
+            room::clear(&mut container[size..]);
+            verdicts::wrote(size)
+        }
+    }
 }
