@@ -46,6 +46,27 @@ starts kind today vs c h =
     rw r
     (refl, record { bytes = d; inside = omega (arith, l, z); allowed = h .allowed; listed = tags kind; apart = distinct kind; small = small })
 
+-- where an element's value stands, and what comes after it
+pub value-stands : (c : List ℕ) (at tag : ℕ) (v rest : List ℕ) → drop at c ≡ tagBytes tag ++ (lengthBytes (length v) ++ (v ++ rest))
+    → (drop (begin tag at v) c ≡ v ++ rest) × (drop (past tag at v) c ≡ rest)
+value-stands c at tag v rest e =
+    let head = lengthBytes (length v) in
+    let value : drop (begin tag at v) c ≡ v ++ rest =
+    sym (drop-drop (length head) (at + long tag) c)
+    ∙ ap (drop (length head)) (sym (drop-drop (long tag) at c) ∙ ap (drop (long tag)) e ∙ drop-append-seam (tagBytes tag) (head ++ (v ++ rest)))
+    ∙ drop-append-seam head (v ++ rest) in
+    (value, sym (drop-drop (length v) (begin tag at v) c) ∙ ap (drop (length v)) value ∙ drop-append-seam v rest)
+
+-- an offset within c, from which rows are written: then the value and the rows after it are within c too
+pub value-inside : (c : List ℕ) (at tag : ℕ) (v rest : List ℕ) → at ≤ length c → drop at c ≡ tagBytes tag ++ (lengthBytes (length v) ++ (v ++ rest)) → past tag at v ≤ length c
+value-inside c at tag v rest h e =
+    let head = lengthBytes (length v) in
+    let k = length-append (tagBytes tag) (head ++ (v ++ rest)) in
+    let l = length-append head (v ++ rest) in
+    let m = length-append v rest in
+    let z = sym (length-drop at c) ∙ ap length e in
+    omega (arith, z, k, l, m)
+
 module _ (kind today : ℕ) where
   -- no row is left
   at-end : (vs : Values) (c : List ℕ) (at : ℕ) → Ahead kind today [] vs c at → vs ≡ []
@@ -72,15 +93,17 @@ module _ (kind today : ℕ) where
       let m = length-append v rest in
       let s = a .small in
       let long-v : length v < 65536 = omega (arith, k, l, m) in
-      let z = sym (length-drop at c) ∙ ap length (a .bytes) in
-      let at-value : drop (begin (r .tag) at v) c ≡ v ++ rest =
-      sym (drop-drop (length head) (at + long (r .tag)) c)
-      ∙ ap (drop (length head)) (sym (drop-drop (long (r .tag)) at c) ∙ ap (drop (long (r .tag))) (a .bytes) ∙ drop-append-seam (tagBytes (r .tag)) (head ++ (v ++ rest)))
-      ∙ drop-append-seam head (v ++ rest) in
-      let b : drop (past (r .tag) at v) c ≡ rest = sym (drop-drop (length v) (begin (r .tag) at v) c) ∙ ap (drop (length v)) at-value ∙ drop-append-seam v rest in (
+      let (value, after) = value-stands c at (r .tag) v rest (a .bytes) in (
         ap (foundAt kind (r .tag) at) (a .bytes) ∙ found-some kind (r .tag) at v rest (a .listed .0) long-v,
-        ap (take (length v)) at-value ∙ take-append-seam v rest,
-        record { bytes = b; inside = omega (arith, z, k, l, m, a .inside); allowed = a .allowed .1; listed = a .listed .1; apart = a .apart .1; small = omega (arith, k, l, m) },
+        ap (take (length v)) value ∙ take-append-seam v rest,
+        record {
+          bytes = after;
+          inside = value-inside c at (r .tag) v rest (a .inside) (a .bytes);
+          allowed = a .allowed .1;
+          listed = a .listed .1;
+          apart = a .apart .1;
+          small = omega (arith, k, l, m);
+        },
       )
 
 -- ---- a loop over the rows ends: no table has more than fifteen

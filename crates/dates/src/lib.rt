@@ -52,7 +52,7 @@ fn days_in(year: u64, month: u64) -> u64
 }
 
 // "year 0001 to 9999, Gregorian"
-pub fn exists(year: u64, month: u64, day: u64) -> bool
+fn exists(year: u64, month: u64, day: u64) -> bool
     ensures { λ r. ⌜ r ≡ exists year month day ⌝ }
 {
     (1 <= year)

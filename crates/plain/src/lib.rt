@@ -78,7 +78,7 @@ pub fn same(a: &[u8], b: &[u8]) -> bool
 }
 
 // A byte as a signed number: 80 to FF are -128 to -1, so FE is -2 and not 254.
-pub fn signed(b: u8) -> i16
+fn signed(b: u8) -> i16
     ensures { λ r. ⌜ r ≡ signed b ⌝ }
 {
     if b < 128 {

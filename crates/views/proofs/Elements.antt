@@ -5,25 +5,24 @@ use mathlib.Core.Path.{_≡_, refl, sym, ap, _∙_}
 use mathlib.Core.Bool.{Bool, true, false, true≢false}
 use mathlib.Core.Logic.{inl, inr}
 use mathlib.Core.Option.{Option, none, some}
-use mathlib.Core.List.{List, [], _∷_, _++_}
+use mathlib.Core.List.{List, [], _∷_}
 use native.Mathlib.Omega.{arith}
 use lib.Dec.{eqb}
-use lib.ListN.{length, take, drop, getD, length-append, length-drop}
-use lib.Seq.{drop-drop, drop-append-seam, take-append-seam}
+use lib.ListN.{length, take, drop, getD}
+use lib.Seq.{take-append-seam}
 use borrow.Author.Tests.{eq-eqb, ne-eqb}
 use Rattle.laws.specs.Bytes.{Bytes}
 use Rattle.laws.proofs.Cases.{which}
-use Rattle.lengths.specs.Length.{lengthBytes}
 use Rattle.verdicts.specs.Verdicts.{numberOf}
 use Rattle.verdicts.specs.declared.Fault.the-variants.{NoElement}
 use Rattle.kinds.specs.Tables.{Table, table, first, rowAt}
 use Rattle.kinds.specs.declared.Place.the-variants.{Holds, End}
-use Rattle.container.specs.Container.{Values, tagBytes, encode, Conforms}
-use Rattle.container.specs.Reading.{has, long}
+use Rattle.container.specs.Container.{Values, encode, Conforms}
+use Rattle.container.specs.Reading.{has}
 use Rattle.container.specs.Places.{Part, start, begin, past, partOf}
 use Rattle.container.proofs.Rows.{Distinct}
 use Rattle.container.proofs.Tags.{distinct}
-use Rattle.container.proofs.Walk.{starts}
+use Rattle.container.proofs.Walk.{value-stands, value-inside, starts}
 use Rattle.views.specs.Views.{View, nothing, shown, viewed}
 use Rattle.views.proofs.Ways.{by-values}
 
@@ -32,30 +31,9 @@ use Rattle.views.proofs.Ways.{by-values}
 no-part : {p : Part} → none ≡ some p → ⊥
 no-part e = let z : _≡_ {A = ℕ} 0 1 = cc in omega arith
 
--- where an element's value stands, and what comes after it
-stands : (c : List ℕ) (at tag : ℕ) (v rest : List ℕ) → drop at c ≡ tagBytes tag ++ (lengthBytes (length v) ++ (v ++ rest))
-    → (drop (begin tag at v) c ≡ v ++ rest) × (drop (past tag at v) c ≡ rest)
-stands c at tag v rest e =
-    let head = lengthBytes (length v) in
-    let value : drop (begin tag at v) c ≡ v ++ rest =
-    sym (drop-drop (length head) (at + long tag) c)
-    ∙ ap (drop (length head)) (sym (drop-drop (long tag) at c) ∙ ap (drop (long tag)) e ∙ drop-append-seam (tagBytes tag) (head ++ (v ++ rest)))
-    ∙ drop-append-seam head (v ++ rest) in
-    (value, sym (drop-drop (length v) (begin tag at v) c) ∙ ap (drop (length v)) value ∙ drop-append-seam v rest)
-
 -- a part of c
 abbrev Stands : List ℕ → Part → Type 0
 Stands c p = (p .offset + length (p .bytes) ≤ length c) × (take (length (p .bytes)) (drop (p .offset) c) ≡ p .bytes)
-
--- an offset within c, from which rows are written: then the value and the rows after it are within c too
-inside : (c : List ℕ) (at tag : ℕ) (v rest : List ℕ) → at ≤ length c → drop at c ≡ tagBytes tag ++ (lengthBytes (length v) ++ (v ++ rest)) → past tag at v ≤ length c
-inside c at tag v rest h e =
-    let head = lengthBytes (length v) in
-    let k = length-append (tagBytes tag) (head ++ (v ++ rest)) in
-    let l = length-append head (v ++ rest) in
-    let m = length-append v rest in
-    let z = sym (length-drop at c) ∙ ap length e in
-    omega (arith, z, k, l, m)
 
 part-stands : (rs : Table) (vs : Values) (c : List ℕ) (at tag : ℕ) → at ≤ length c → drop at c ≡ encode rs vs → (p : Part) → partOf rs vs at tag ≡ some p → Stands c p
 part-stands [] vs c at tag h e p q = absurd (no-part q)
@@ -66,8 +44,8 @@ part-stands (r ∷ rs) (none ∷ vs) c at tag h e p q =
       | inr t ↦ part-stands rs vs c at tag h e p (rw t at q)
     ]
 part-stands (r ∷ rs) (some v ∷ vs) c at tag h e p q =
-    let s = stands c at (r .tag) v (encode rs vs) e in
-    let i = inside c at (r .tag) v (encode rs vs) h e in
+    let s = value-stands c at (r .tag) v (encode rs vs) e in
+    let i = value-inside c at (r .tag) v (encode rs vs) h e in
     elim (which (eqb tag (r .tag))) [
       | inl t ↦
           let w : some (record { offset = begin (r .tag) at v; bytes = v }) ≡ some p = rw t at q in

@@ -1,6 +1,5 @@
 -- `views::locate` meets its contract: a law for each way out. Assumes nothing.
 use mathlib.Core.Path.{refl, sym, _∙_}
-use lib.ListN.{length}
 use Rattle.laws.specs.Bytes.{Bytes}
 use Rattle.laws.proofs.Bases.{below-of}
 use Rattle.container.specs.Container.{Values, Conforms}
