@@ -12,41 +12,9 @@ use std::arch::asm;
 use std::ops::{Deref, DerefMut};
 use std::time::Instant;
 
-#[link(name = "capi", kind = "static")]
-extern "C" {
-    fn prosianek_check(kind: u64, today: u64, container: *const u8, size: usize, place: *mut u64) -> u64;
-    fn prosianek_read(
-        kind: u64,
-        today: u64,
-        container: *const u8,
-        size: usize,
-        sheet: *mut u8,
-        room: usize,
-        place: *mut u64,
-        length: *mut u64,
-    ) -> u64;
-    fn prosianek_write(
-        kind: u64,
-        today: u64,
-        sheet: *const u8,
-        size: usize,
-        container: *mut u8,
-        room: usize,
-        place: *mut u64,
-        length: *mut u64,
-    ) -> u64;
-    fn prosianek_report(
-        kind: u64,
-        today: u64,
-        container: *const u8,
-        size: usize,
-        room: *mut u8,
-        room_size: usize,
-        length: *mut u64,
-    ) -> u64;
-    fn prosianek_fascn_decode(bytes: *const u8, size: usize, numbers: *mut u64) -> u64;
-    fn prosianek_fascn_encode(numbers: *const u64, room: *mut u8, size: usize) -> u64;
-}
+#[path = "../examples/rust/prosianek.rs"]
+mod prosianek;
+use prosianek::{prosianek_check, prosianek_fascn_decode, prosianek_fascn_encode, prosianek_read, prosianek_report, prosianek_write};
 
 const TODAY: u64 = 2026_03_01;
 const LARGEST: usize = second::CONTAINER_MAX;
@@ -185,8 +153,8 @@ fn prosianek(case: &Case, room: &mut [u8], meter: &mut impl Meter) -> Vec<u64> {
             Call::Read => meter.measure(|| prosianek_read(kind, TODAY, input, size, to, room_size, p, l)),
             Call::Write => meter.measure(|| prosianek_write(kind, TODAY, input, size, to, room_size, p, l)),
             Call::Report => meter.measure(|| prosianek_report(kind, TODAY, input, size, to, room_size, l)),
-            Call::Decode => meter.measure(|| prosianek_fascn_decode(input, size, numbers.as_mut_ptr())),
-            Call::Encode => meter.measure(|| prosianek_fascn_encode(case.numbers.as_ptr(), to, room_size)),
+            Call::Decode => meter.measure(|| prosianek_fascn_decode(input, size, &mut numbers)),
+            Call::Encode => meter.measure(|| prosianek_fascn_encode(&case.numbers, to, room_size)),
         }
     };
     [&[number, place, length], &numbers[..]].concat()

@@ -30,16 +30,17 @@ pub struct Refused {
     pub place: u64,
 }
 
+// The functions themselves, as the header declares them.
 #[link(name = "capi", kind = "static")]
 extern "C" {
-    fn prosianek_check(
+    pub fn prosianek_check(
         kind: u64,
         today: u64,
         container: *const u8,
         size: usize,
         place: *mut u64,
     ) -> u64;
-    fn prosianek_read(
+    pub fn prosianek_read(
         kind: u64,
         today: u64,
         container: *const u8,
@@ -49,7 +50,7 @@ extern "C" {
         place: *mut u64,
         length: *mut u64,
     ) -> u64;
-    fn prosianek_write(
+    pub fn prosianek_write(
         kind: u64,
         today: u64,
         sheet: *const u8,
@@ -59,7 +60,7 @@ extern "C" {
         place: *mut u64,
         length: *mut u64,
     ) -> u64;
-    fn prosianek_view(
+    pub fn prosianek_view(
         kind: u64,
         today: u64,
         container: *const u8,
@@ -69,7 +70,7 @@ extern "C" {
         offset: *mut u64,
         length: *mut u64,
     ) -> u64;
-    fn prosianek_report(
+    pub fn prosianek_report(
         kind: u64,
         today: u64,
         container: *const u8,
@@ -78,8 +79,8 @@ extern "C" {
         room_size: usize,
         length: *mut u64,
     ) -> u64;
-    fn prosianek_fascn_decode(bytes: *const u8, size: usize, numbers: *mut [u64; 9]) -> u64;
-    fn prosianek_fascn_encode(numbers: *const [u64; 9], room: *mut u8, size: usize) -> u64;
+    pub fn prosianek_fascn_decode(bytes: *const u8, size: usize, numbers: *mut [u64; 9]) -> u64;
+    pub fn prosianek_fascn_encode(numbers: *const [u64; 9], room: *mut u8, size: usize) -> u64;
 }
 
 // In each unsafe block below: every pointer with its size is that of a slice, every other pointer that of a number or an
