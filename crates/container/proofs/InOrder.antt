@@ -7,7 +7,7 @@ use mathlib.Core.Bool.{Bool, true, false, cond, true≢false}
 use mathlib.Core.Option.{Option, none, some}
 use mathlib.Core.List.{List, [], _∷_, _++_}
 use native.Mathlib.Omega.{arith}
-use lib.ListN.{length, take, drop}
+use lib.ListN.{length, take, drop, length-append}
 use lib.Seq.{drop-drop, take-append-add}
 use lib.Dec.{eqb}
 use borrow.Author.Tests.{eqb-true}
@@ -20,9 +20,9 @@ use Rattle.verdicts.specs.declared.Fault.{Fault}
 use Rattle.verdicts.specs.declared.Fault.the-variants.{TagOrder, MissingRow}
 use Rattle.verdicts.specs.declared.Outcome.{Outcome}
 use Rattle.verdicts.specs.declared.Outcome.the-variants.{Broken}
-use Rattle.container.specs.Container.{tagBytes, encode}
+use Rattle.container.specs.Container.{Values, tagBytes, encode, Allowed}
 use Rattle.container.specs.Reading.{Parsed, values, fault, prepend, Element, whole, broken, element, long, has, tagHere, follow, parse, outcomeOf}
-use Rattle.container.specs.InOrder.{Place, nowhere, found, beyond, locate, onward, placed, inOrder, First}
+use Rattle.container.specs.InOrder.{Place, nowhere, found, beyond, locate, onward, placed, inOrder, Owed, First}
 use Rattle.container.proofs.Rows.{kept, gone}
 use Rattle.container.proofs.Tags.{tag-is}
 use Rattle.container.proofs.One.{element-is, good-fits}
@@ -89,36 +89,6 @@ next-part all r rs k u h = elim (which (eqb u (r .tag))) [
   | inr q ↦ rw q at (k u h)
 ]
 
--- the fault of what stands at once
-at-once : (today : ℕ) (all rest : Table) (at b : ℕ) (s : List ℕ) (f : Fault) → Part all rest → parse today all rest at (b ∷ s) ≡ fault f at
-    → First today all rest at (b ∷ s) f at
-at-once today all rest at b s f k e =
-    record {
-      rows = [];
-      later = rest;
-      vs = [];
-      split = refl;
-      allowed = tt;
-      size = 0;
-      place-is = omega arith;
-      written = refl;
-      wrong = sym (in-order today all at b s rest (k (tagHere all b s))) ∙ ap outcomeOf e;
-    }
-
-skip : (today : ℕ) (all : Table) (r : Entry) (rs : Table) (at : ℕ) (s : List ℕ) (f : Fault) (p : ℕ) → r .optional ≡ true → First today all rs at s f p → First today all (r ∷ rs) at s f p
-skip today all r rs at s f p o b =
-    record {
-      rows = r ∷ b .rows;
-      later = b .later;
-      vs = none ∷ b .vs;
-      split = ap (λ (l : Table). r ∷ l) (b .split);
-      allowed = (o, b .allowed);
-      size = b .size;
-      place-is = b .place-is;
-      written = b .written;
-      wrong = b .wrong;
-    }
-
 fault-of : (o : Option (List ℕ)) (x : Parsed) {f : Fault} {p : ℕ} → prepend o x ≡ fault f p → x ≡ fault f p
 fault-of o (values vs) e = let z : _≡_ {A = ℕ} 0 1 = cc in absurd (omega arith)
 fault-of o (fault g q) e = e
@@ -128,6 +98,53 @@ place-of e = cc
 
 pub fault-is : {f g : Fault} {p q : ℕ} → fault f p ≡ fault g q → g ≡ f
 fault-is e = cc
+
+-- the fault of what stands at once
+at-once : (today : ℕ) (all rest : Table) (at b : ℕ) (s : List ℕ) (f : Fault) (p : ℕ) → Part all rest → parse today all rest at (b ∷ s) ≡ fault f p → p ≡ at
+    → First today all rest at (b ∷ s) f p
+at-once today all rest at b s f p k e z =
+    record {
+      rows = [];
+      later = rest;
+      vs = [];
+      split = refl;
+      allowed = tt;
+      last = tt;
+      place-is = z ∙ omega arith;
+      written = refl;
+      wrong = rw z (sym (in-order today all at b s rest (k (tagHere all b s))) ∙ ap outcomeOf (rw z at e));
+    }
+
+-- an optional row without an element
+skip : (today : ℕ) (all : Table) (r : Entry) (rs : Table) (at x : ℕ) (s : List ℕ) (f : Fault) (p : ℕ) → r .optional ≡ true → Part all (r ∷ rs)
+    → parse today all (r ∷ rs) at (x ∷ s) ≡ fault f p → First today all rs at (x ∷ s) f p → First today all (r ∷ rs) at (x ∷ s) f p
+skip today all r rs at x s f p o k e b = go (b .rows) (b .vs) refl refl (b .allowed)
+  where
+    go : (rows : Table) (vs : Values) → b .rows ≡ rows → b .vs ≡ vs → Allowed today rows vs → First today all (r ∷ rs) at (x ∷ s) f p
+    go [] [] m n a = let z : p ≡ at + length (encode [] []) = b .place-is ∙ rw m in at-once today all (r ∷ rs) at x s f p k e (omega (arith, z))
+    go [] (v ∷ vs) m n a = absurd a
+    go (y ∷ ys) [] m n a = absurd a
+    go (y ∷ ys) (v ∷ vs) m n a =
+        record {
+          rows = r ∷ b .rows;
+          later = b .later;
+          vs = none ∷ b .vs;
+          split = ap (λ (l : Table). r ∷ l) (b .split);
+          allowed = (o, b .allowed);
+          last = rw n (rw n at (b .last));
+          place-is = b .place-is;
+          written = b .written;
+          wrong = b .wrong;
+        }
+
+-- the end of the bytes
+at-end : (today : ℕ) (all : Table) (at : ℕ) (rest : Table) {f : Fault} {p : ℕ} → parse today all rest at [] ≡ fault f p → Owed rest × (f ≡ MissingRow) × (p ≡ at)
+at-end today all at [] e = let z : _≡_ {A = ℕ} 0 1 = cc in absurd (omega arith)
+at-end today all at (r ∷ rs) {f} {p} e =
+    elim (which (r .optional)) [
+      | inl o ↦ let h = at-end today all at rs (fault-of none (parse today all rs at []) (rw o at e)) in (inr (h .0), h .1, h .2)
+      | inr o ↦ let q : fault MissingRow at ≡ fault f p = rw o at e in (inl o, fault-is q, place-of q)
+    ]
 
 module _ (today : ℕ) (all : Table) where
   after-element : (r : Entry) (rs : Table) (at x : ℕ) (s : List ℕ) → Bytes (x ∷ s) → tagHere all x s ≡ r .tag → (v : List ℕ) (n p : ℕ)
@@ -141,8 +158,11 @@ module _ (today : ℕ) (all : Table) where
       let bv : Bytes v = bytes-front v (drop n body) (bytes-back (lengthBytes (length v)) (v ++ drop n body) (rw (g .2) at bb)) in
       let y : List ℕ = drop n body in
       let z : drop (long (r .tag) + n) (x ∷ s) ≡ y = sym (drop-drop n (long (r .tag)) (x ∷ s)) in
-      let m = w .size in
+      let rest = encode (w .rows) (w .vs) in
+      let m = length rest in
       let a : long (r .tag) + n + m ≡ long (r .tag) + (n + m) = omega arith in
+      let q : length (tagBytes (r .tag) ++ (lengthBytes (length v) ++ (v ++ rest))) ≡ long (r .tag) + (n + m) =
+      omega (arith, g .1, length-append (tagBytes (r .tag)) (lengthBytes (length v) ++ (v ++ rest)), length-append (lengthBytes (length v)) (v ++ rest), length-append v rest) in
       let h : take m y ≡ encode (w .rows) (w .vs) = rw z at (w .written) in
       let k : take (length v + m) (v ++ y) ≡ v ++ encode (w .rows) (w .vs) = take-append-add v y m ∙ rw h in
       let l : take (length (lengthBytes (length v)) + (length v + m)) (lengthBytes (length v) ++ (v ++ y)) ≡ lengthBytes (length v) ++ (v ++ encode (w .rows) (w .vs)) =
@@ -155,10 +175,10 @@ module _ (today : ℕ) (all : Table) where
         vs = some v ∷ w .vs;
         split = ap (λ (l : Table). r ∷ l) (w .split);
         allowed = (good-fits today r v bv (g .0), w .allowed);
-        size = long (r .tag) + (n + m);
-        place-is = omega (arith, w .place-is);
-        written = ap (take (long (r .tag) + (n + m))) t ∙ take-append-add (tagBytes (r .tag)) body (n + m) ∙ rw j;
-        wrong = rw (drop-drop m (long (r .tag) + n) (x ∷ s), a) at (w .wrong);
+        last = w .last;
+        place-is = omega (arith, w .place-is, q);
+        written = rw q (ap (take (long (r .tag) + (n + m))) t ∙ take-append-add (tagBytes (r .tag)) body (n + m) ∙ rw j);
+        wrong = rw q (rw (drop-drop m (long (r .tag) + n) (x ∷ s), a) at (w .wrong));
       }
 
   follow-fault : (at : ℕ) (x : Element) (k : ℕ → Parsed) {f : Fault} {p : ℕ} → follow at x k ≡ fault f p
@@ -166,36 +186,35 @@ module _ (today : ℕ) (all : Table) where
   follow-fault at (whole v n) k e here on = on v n refl (fault-of (some v) (k n) e)
   follow-fault at (broken g) k e here on = here (place-of e)
 
+  ended : (rest : Table) (at : ℕ) (f : Fault) (p : ℕ) → parse today all rest at [] ≡ fault f p → First today all rest at [] f p
+  ended rest at f p e =
+      let h = at-end today all at rest e in
+      record {
+        rows = [];
+        later = rest;
+        vs = [];
+        split = refl;
+        allowed = tt;
+        last = tt;
+        place-is = h .2 ∙ omega arith;
+        written = refl;
+        wrong = (h .0, h .1);
+      }
+
   -- the fault that is read is the first one
   pub first : (rest : Table) (at : ℕ) (s : List ℕ) → Bytes s → Part all rest → (f : Fault) (p : ℕ) → parse today all rest at s ≡ fault f p → First today all rest at s f p
-  first [] at [] b k f p e = let z : _≡_ {A = ℕ} 0 1 = cc in absurd (omega arith)
-  first [] at (x ∷ s) b k f p e = rw (place-of e) (at-once today all [] at x s f k (rw (place-of e) at e))
-  first (r ∷ rs) at [] b k f p e =
-      elim (which (r .optional)) [
-        | inl o ↦ skip today all r rs at [] f p o (first rs at [] b (next-part all r rs k) f p (fault-of none (parse today all rs at []) (rw o at e)))
-        | inr o ↦
-            let q : fault MissingRow at ≡ fault f p = rw o at e in
-            record {
-              rows = [];
-              later = r ∷ rs;
-              vs = [];
-              split = refl;
-              allowed = tt;
-              size = 0;
-              place-is = place-of q ∙ omega arith;
-              written = refl;
-              wrong = (o, fault-is q);
-            }
-      ]
+  first [] at [] b k f p e = ended [] at f p e
+  first [] at (x ∷ s) b k f p e = at-once today all [] at x s f p k e (place-of e)
+  first (r ∷ rs) at [] b k f p e = ended (r ∷ rs) at f p e
   first (r ∷ rs) at (x ∷ s) b k f p e =
       elim (which (eqb (tagHere all x s) (r .tag))) [
         | inl q ↦
             follow-fault at (element (r .lengths) (r .rule) today (drop (long (r .tag)) (x ∷ s))) (λ n. parse today all rs (at + (long (r .tag) + n)) (drop (long (r .tag) + n) (x ∷ s))) (rw q at e)
-            (λ z. rw z (at-once today all (r ∷ rs) at x s f k (rw z at e)))
+            (λ z. at-once today all (r ∷ rs) at x s f p k e z)
             (λ v n w m. after-element r rs at x s b (eqb-true _ _ q) v n p w f (first rs (at + (long (r .tag) + n)) (drop (long (r .tag) + n) (x ∷ s)) (below-drop 256 (long (r .tag) + n) (x ∷ s) b) (next-part all r rs k) f p m))
         | inr q ↦
             elim (which (r .optional)) [
-              | inl o ↦ skip today all r rs at (x ∷ s) f p o (first rs at (x ∷ s) b (next-part all r rs k) f p (fault-of none (parse today all rs at (x ∷ s)) (rw (q, o) at e)))
-              | inr o ↦ let z = place-of (rw (q, o) at e) in rw z (at-once today all (r ∷ rs) at x s f k (rw z at e))
+              | inl o ↦ skip today all r rs at x s f p o k e (first rs at (x ∷ s) b (next-part all r rs k) f p (fault-of none (parse today all rs at (x ∷ s)) (rw (q, o) at e)))
+              | inr o ↦ at-once today all (r ∷ rs) at x s f p k e (place-of (rw (q, o) at e))
             ]
       ]

@@ -1,6 +1,7 @@
 -- 01, "Order": the elements one by one, in the order in which 01 names the numbers, and the first broken rule. `proofs/InOrder.antt` and
 -- `proofs/Promise.antt` show that this is what is read and named.
 use Prim.Native.Nat.{ℕ, _+_, _<_, _≤_}
+use mathlib.Core.Logic.{_⊎_}
 use mathlib.Core.Path.{_≡_}
 use mathlib.Core.Bool.{Bool, true, false, cond, not, _||_}
 use mathlib.Core.Option.{none, some}
@@ -47,25 +48,36 @@ module _ (today : ℕ) (all : Table) (at : ℕ) (s : List ℕ) (t : ℕ) where
 
 -- ---- the first broken rule
 
--- with the rows `rest` of the table `all` to come, the bytes s break the rule f at once: at their end a mandatory row is due, or the element that they
+-- a mandatory row is among the rows to come
+abbrev pub Owed : Table → Type 0
+Owed [] = ⊥
+Owed (r ∷ rs) = (r .optional ≡ false) ⊎ Owed rs
+
+-- with the rows `rest` of the table `all` to come, the bytes s break the rule f at once: they end and a mandatory row is due, or the element that they
 -- begin with is at fault
 abbrev pub Wrong : ℕ → Table → Table → ℕ → List ℕ → Fault → Type 0
-Wrong today all [] at [] f = ⊥
-Wrong today all (r ∷ rs) at [] f = (r .optional ≡ false) × (f ≡ MissingRow)
+Wrong today all rest at [] f = Owed rest × (f ≡ MissingRow)
 Wrong today all rest at (b ∷ s) f = inOrder today all at (b ∷ s) (tagHere all b s) rest ≡ Broken f at
 
--- the rule f is the first that is broken in the bytes s, which start at the offset `at`: some of the rows, with values that are allowed, are written as
--- the bytes before the place, and there, with the other rows to come, f is broken
+-- the last of some values is there
+abbrev pub LastThere : Values → Type 0
+LastThere [] = Unit {0}
+LastThere (none ∷ []) = ⊥
+LastThere (none ∷ o ∷ vs) = LastThere (o ∷ vs)
+LastThere (some v ∷ vs) = LastThere vs
+
+-- the rule f is the first that is broken in the bytes s, which start at the offset `at`: the rows up to that of the last element before the place, with
+-- values that are allowed, are written as the bytes before the place, and there, with the other rows to come, f is broken
 pub record First (today : ℕ) (all rest : Table) (at : ℕ) (s : List ℕ) (f : Fault) (place : ℕ) : Type 0 where
   pub rows : Table
   pub later : Table
   pub vs : Values
   pub split : rest ≡ rows ++ later
   pub allowed : Allowed today rows vs
-  pub size : ℕ
-  pub place-is : place ≡ at + size
-  pub written : take size s ≡ encode rows vs
-  pub wrong : Wrong today all later place (drop size s) f
+  pub last : LastThere vs
+  pub place-is : place ≡ at + length (encode rows vs)
+  pub written : take (length (encode rows vs)) s ≡ encode rows vs
+  pub wrong : Wrong today all later place (drop (length (encode rows vs)) s) f
 
 -- "Check: 1, 2, 4, then outer 10, 11, 12 (place 0), then each element": the first broken rule of the bytes c, and its place
 pub data Named (kind today : ℕ) (c : List ℕ) (f : Fault) (place : ℕ) : Type 0 where
