@@ -115,7 +115,7 @@ module _ (today : ℕ) (all : Table) where
             rw (g .bytes, g .tag) (ne-eqb (r .tag) u (λ e. eqb-false _ _ q (sym e)))
       ]
 
-  skips : (r : Entry) (rs : Table) (at : ℕ) (s : List ℕ) → r .optional ≡ true → Apart (r .tag) s → parse today all (r ∷ rs) at s ≡ prepend none (parse today all rs at s)
+  pub skips : (r : Entry) (rs : Table) (at : ℕ) (s : List ℕ) → r .optional ≡ true → Apart (r .tag) s → parse today all (r ∷ rs) at s ≡ prepend none (parse today all rs at s)
   skips r rs at [] o h = rw o
   skips r rs at (b ∷ s) o h = rw (h, o)
 
@@ -135,7 +135,7 @@ module _ (today : ℕ) (all : Table) where
       → parse today all (r ∷ rs) at (b ∷ s) ≡ prepend (some v) (parse today all rs (at + (long (r .tag) + n)) (drop (long (r .tag) + n) (b ∷ s)))
   taken r rs at b s v n t e = rw (eq-eqb (tagHere all b s) (r .tag) t, e)
 
-  takes : (r : Entry) (rs : Table) (at : ℕ) (v s : List ℕ) → Plain all (r .tag) → length v < 65536 → Good (r .lengths) (r .rule) today v
+  pub takes : (r : Entry) (rs : Table) (at : ℕ) (v s : List ℕ) → Plain all (r .tag) → length v < 65536 → Good (r .lengths) (r .rule) today v
       → parse today all (r ∷ rs) at (tagBytes (r .tag) ++ (lengthBytes (length v) ++ (v ++ s))) ≡ prepend (some v) (parse today all rs (at + (long (r .tag) + size v)) s)
   takes r rs at v s p h g =
       let x = lengthBytes (length v) ++ (v ++ s) in

@@ -10,3 +10,4 @@ pub mod Places
 pub mod InOrder
 pub mod Walk
 pub mod Passing
+pub mod Named

@@ -26,6 +26,7 @@ use Rattle.kinds.specs.Tables.{table}
 use Rattle.container.specs.Container.{Values, Conforms}
 use Rattle.container.specs.Reading.{Parsed, values, fault, parsed, outcomeOf, outcome, verdict}
 use Rattle.container.specs.InOrder.{Named}
+use Rattle.container.proofs.Named.{named-back}
 use Rattle.container.proofs.Promise.{exactly-when, unique, named}
 use Rattle.sheet.specs.Sheet.{IsSheet}
 use Rattle.sheet.specs.Calls.{readOutput}
@@ -51,6 +52,13 @@ first-named kind today c b r a n = go (parsed kind today c) refl
     go (fault f p) e =
         let q : r ≡ record { number = numberOf f; place = p } = a ∙ ap (λ (x : Parsed). verdictOf (outcomeOf x)) e in
         (f, ap (λ (v : Verdict). v .number) q, rw q (named kind today c b f p e))
+
+only-first : (kind today : ℕ) (c : List ℕ) → Bytes c → (r : Verdict) → r ≡ verdict kind today c → (f : Fault) (place : ℕ) → Named kind today c f place
+    → (r .number ≡ numberOf f) × (r .place ≡ place)
+unfolding outcome
+only-first kind today c b r a f place h =
+    let q : r ≡ record { number = numberOf f; place = place } = a ∙ ap (λ (x : Parsed). verdictOf (outcomeOf x)) (named-back kind today f place c b h) in
+    (ap (λ (v : Verdict). v .number) q, ap (λ (v : Verdict). v .place) q)
 
 -- ---- sheets
 
@@ -135,6 +143,7 @@ demand-2 = record {
   exactly-when = λ kind today c b r a. rw (a .answer) (exactly-when kind today c b);
   only-one = unique;
   first-named = λ kind today c b r a. first-named kind today c b r (a .answer);
+  only-first = λ kind today c b r a. only-first kind today c b r (a .answer);
   read-values = reads;
   write-values = writes;
   accepted-when = accepts;

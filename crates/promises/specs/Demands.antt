@@ -89,6 +89,9 @@ pub record Demand2 : Type 0 where
   -- "otherwise the first broken rule and its place are named"
   pub first-named : (kind today : ℕ) (c : List ℕ) → Bytes c → (r : Verdict) → Checks kind today c r → (r .number ≡ 0 → ⊥)
       → (f : Fault) × (r .number ≡ numberOf f) × Named kind today c f (r .place)
+  -- and nothing else can be named: where a rule is the first that is broken, the verdict is its number and its place
+  pub only-first : (kind today : ℕ) (c : List ℕ) → Bytes c → (r : Verdict) → Checks kind today c r → (f : Fault) (place : ℕ) → Named kind today c f place
+      → (r .number ≡ numberOf f) × (r .place ≡ place)
   -- a sheet that was read holds the container's values, and a container that was written has the sheet's
   pub read-values : (kind today : ℕ) (c before after : List ℕ) (r : Done) → Bytes c → Reads kind today c before after r → r .number ≡ 0
       → (vs : Values) × Conforms kind today vs c × IsSheet (table kind) vs (take (r .length) after)

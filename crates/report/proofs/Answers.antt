@@ -4,7 +4,6 @@ use mathlib.Core.Logic.{inl, inr}
 use mathlib.Core.Path.{_≡_}
 use mathlib.Core.Bool.{true, false}
 use mathlib.Core.List.{List}
-use native.Mathlib.Omega.{arith}
 use lib.Dec.{ltb, leb}
 use lib.ListN.{length}
 use borrow.Author.Tests.{lt-ltb, le-ltb, lt-leb, le-leb, ltb-false}
@@ -17,7 +16,8 @@ use Rattle.verdicts.specs.declared.Fault.{Fault}
 use Rattle.verdicts.specs.declared.Fault.the-variants.{UnknownKind, NoDate, SmallRoom, LargeContainer, LongReport}
 use Rattle.verdicts.specs.declared.Outcome.the-variants.{Broken}
 use Rattle.container.specs.Container.{largest}
-use Rattle.container.specs.Reading.{Parsed, values, fault, outer, parsed, outcomeOf, outcome}
+use Rattle.container.specs.Reading.{fault, outer, parsed, outcome}
+use Rattle.container.proofs.Named.{broken-fault}
 use Rattle.report.specs.Report.{reportText}
 use Rattle.report.specs.Calls.{fitting, reportOutput}
 use Rattle.report.proofs.Bound.{report-length}
@@ -25,11 +25,7 @@ use Rattle.report.proofs.Bound.{report-length}
 -- a fault that is judged is what was read
 pub broken-parsed : (kind today : ℕ) (c : List ℕ) {f : Fault} {p : ℕ} → outcome kind today c ≡ Broken f p → parsed kind today c ≡ fault f p
 unfolding outcome
-broken-parsed kind today c {f} {p} e = go (parsed kind today c) e
-  where
-    go : (q : Parsed) → outcomeOf q ≡ Broken f p → q ≡ fault f p
-    go (values vs) e = let z : _≡_ {A = ℕ} 0 1 = cc in absurd (omega arith)
-    go (fault g q) e = cc
+broken-parsed kind today c {f} {p} e = broken-fault (parsed kind today c) f p e
 
 module _ (kind today : ℕ) (c : List ℕ) (room : ℕ) where
   pub report-1 : isKind kind ≡ false → reportOutput kind today c room ≡ refusal UnknownKind 0

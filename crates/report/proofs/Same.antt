@@ -19,7 +19,6 @@ use Rattle.dates.proofs.Dates.{date-exact}
 use Rattle.kinds.specs.Tables.{Table, table, isKind}
 use Rattle.verdicts.specs.Output.{Leaves}
 use Rattle.verdicts.specs.Verdicts.{verdictOf}
-use Rattle.verdicts.specs.declared.Outcome.the-variants.{Broken}
 use Rattle.verdicts.proofs.Apart.{one-outcome}
 use Rattle.verdicts.specs.declared.Done.{Done}
 use Rattle.verdicts.specs.declared.Fault.{Fault}
@@ -27,6 +26,7 @@ use Rattle.verdicts.proofs.Outputs.{settled}
 use Rattle.container.specs.Container.{Values, encode, container, largest, Conforms}
 use Rattle.container.specs.Reading.{Parsed, values, fault, outer, parsed, outcomeOf, outcome, verdict}
 use Rattle.container.proofs.Promise.{kind-exact, conforms-parsed}
+use Rattle.container.proofs.Named.{broken-fault}
 use Rattle.report.specs.Open.{openOf, shape}
 use Rattle.report.specs.Report.{elementLines, elementCount, reportText}
 use Rattle.report.specs.Calls.{reportOutput}
@@ -142,10 +142,6 @@ module _ (kind today : ℕ) (c d : List ℕ) (f : Fault) (p : ℕ) where
       → (d₁ d₂ : List ℕ) {e₁ e₂ : List ℕ} {r₁ r₂ : Done} → length d₁ ≡ length d₂
       → Leaves (reportOutput kind today c (length d₁)) d₁ e₁ r₁ → Leaves (reportOutput kind today d (length d₂)) d₂ e₂ r₂ → (r₁ ≡ r₂) × (e₁ ≡ e₂)
   refused-rooms h k l d₁ d₂ m = rooms-alike kind today c d (same-refused h k l) d₁ d₂ m
-
-broken-fault : (x : Parsed) (f : Fault) (p : ℕ) → outcomeOf x ≡ Broken f p → x ≡ fault f p
-broken-fault (values vs) f p e = let z : _≡_ {A = ℕ} 0 1 = cc in absurd (omega arith)
-broken-fault (fault g q) f p e = cc
 
 -- the same in 01's number and place
 pub same-verdict : (kind today : ℕ) (c d : List ℕ) → verdict kind today c ≡ verdict kind today d → (verdict kind today c .number ≡ 0 → ⊥) → length c ≡ length d
