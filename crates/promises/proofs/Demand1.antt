@@ -11,7 +11,6 @@ use lib.Dec.{ltb, leb, eqb}
 use borrow.Author.Tests.{ltb-false}
 use Rattle.laws.specs.Room.{filled}
 use Rattle.laws.proofs.Cases.{which}
-use Rattle.laws.proofs.Rooms.{length-filled, filled-none}
 use Rattle.dates.specs.Date.{isDate}
 use Rattle.kinds.specs.Tables.{table, isKind}
 use Rattle.fascn.specs.Fascn.{encoded, inRange}
@@ -35,7 +34,7 @@ use Rattle.views.specs.Views.{shown, viewOf, viewed}
 use Rattle.report.specs.Calls.{reportOutput}
 use Rattle.report.proofs.Answers.{report-cases}
 use Rattle.promises.specs.Demands.{Numbered, Clean, Demand1}
-use Rattle.promises.proofs.Rooms.{back, answer, Fits, clean}
+use Rattle.promises.proofs.Rooms.{answer, Fits, left-nothing, left-text, clean}
 
 -- ---- every number is of 01's table
 
@@ -122,27 +121,10 @@ encode-clean n d e k l =
     ]
   where
     empty : (f : Fault) → k ≡ numberOf f → e ≡ filled [] (length d) → (k ≡ 0 → ⊥) × Clean d e k 0
-    empty f a q = (
-      λ z. never-zero f (sym a ∙ z),
-      rw q (record {
-        by-number = inr (f, a);
-        same-room = length-filled [] (length d) (omega arith);
-        refused = λ z. sym (filled-none (length d));
-        inside = omega arith;
-        behind = back [] (length d);
-      }),
-    )
+    empty f a q = (λ z. never-zero f (sym a ∙ z), left-nothing d (inr (f, a)) q)
 
     whole : k ≡ 0 → 25 ≤ length d → e ≡ filled (encoded n) (length d) → Clean d e k 25
-    whole z h q =
-        let f = length-encoded n in
-        rw q (record {
-          by-number = inl z;
-          same-room = length-filled (encoded n) (length d) (omega (arith, f));
-          refused = λ n. absurd (n z);
-          inside = h;
-          behind = rw f at (back (encoded n) (length d));
-        })
+    whole z h q = let f = length-encoded n in rw f at (left-text (encoded n) d z (omega (arith, f)) q)
 
 -- ---- the theorem
 

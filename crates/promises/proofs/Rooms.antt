@@ -11,7 +11,7 @@ use Rattle.laws.proofs.Rooms.{length-filled, filled-none}
 use Rattle.verdicts.specs.Output.{Output, refusal, text, bytesOf, doneOf, Leaves}
 use Rattle.verdicts.specs.declared.Done.{Done}
 use Rattle.verdicts.proofs.Apart.{never-zero}
-use Rattle.promises.specs.Demands.{Clean}
+use Rattle.promises.specs.Demands.{Numbered, Clean}
 
 -- the text at the front of a filled room, and the zeros behind it
 pub front : (t : List ℕ) (n : ℕ) → take (length t) (filled t n) ≡ t
@@ -40,21 +40,27 @@ abbrev pub Fits : ℕ → Output → Type 0
 Fits room (refusal f p) = Unit {0}
 Fits room (text t) = length t ≤ room
 
-pub clean : (o : Output) (d : List ℕ) {e : List ℕ} {r : Done} → Fits (length d) o → Leaves o d e r → Clean d e (r .number) (r .length)
-clean (refusal f p) d h l =
-    let z = filled-none (length d) in
-    rw (l .answer, l .room) (record {
-      by-number = inr (f, refl);
+-- a room that was left with nothing in it, and one that was left with a text
+pub left-nothing : (d : List ℕ) {e : List ℕ} {k : ℕ} → Numbered k → e ≡ filled [] (length d) → Clean d e k 0
+left-nothing d n q =
+    rw q (record {
+      by-number = n;
       same-room = length-filled [] (length d) (omega arith);
-      refused = λ n. sym z;
+      refused = λ z. sym (filled-none (length d));
       inside = omega arith;
       behind = back [] (length d);
     })
-clean (text t) d h l =
-    rw (l .answer, l .room) (record {
-      by-number = inl refl;
+
+pub left-text : (t d : List ℕ) {e : List ℕ} {k : ℕ} → k ≡ 0 → length t ≤ length d → e ≡ filled t (length d) → Clean d e k (length t)
+left-text t d z h q =
+    rw q (record {
+      by-number = inl z;
       same-room = length-filled t (length d) h;
-      refused = λ n. absurd (n refl);
+      refused = λ n. absurd (n z);
       inside = h;
       behind = back t (length d);
     })
+
+pub clean : (o : Output) (d : List ℕ) {e : List ℕ} {r : Done} → Fits (length d) o → Leaves o d e r → Clean d e (r .number) (r .length)
+clean (refusal f p) d h l = rw (l .answer) (left-nothing d (inr (f, refl)) (l .room))
+clean (text t) d h l = rw (l .answer) (left-text t d refl h (l .room))
