@@ -1,7 +1,8 @@
 // A line taken apart: numbers in decimal and bytes in hex.
-ghost use Prim.Native.Nat.{_-_, _<_, _≤_, min};
+ghost use Prim.Native.Nat.{ℕ, _-_, _<_, _≤_, min};
 ghost use mathlib.Core.Path.{_≡_};
-ghost use lib.ListN.{length};
+ghost use mathlib.Core.Logic.{_⊎_};
+ghost use lib.ListN.{length, getD};
 ghost use Rattle.laws.specs.Layout.{part};
 ghost use Rattle.laws.specs.Room.{Put};
 
@@ -109,6 +110,7 @@ pub fn fill(room: &mut [u8], b: u8) {
 // Where the line that starts at `at` ends: at its 0A, or at the end of what was read, as where `at` lies beyond it.
 pub fn line_end(s: &[u8], at: usize) -> usize
     ensures { λ r. ⌜ (min at (length (now (s .entry))) ≤ r) × (r ≤ length (now (s .entry))) ⌝ }
+    ensures { λ r. ⌜ ((k : ℕ) → min at (length (now (s .entry))) ≤ k → k < r → getD (now (s .entry)) k 0 ≡ 10 → ⊥) × ((r ≡ length (now (s .entry))) ⊎ (getD (now (s .entry)) r 0 ≡ 10)) ⌝ }
 {
     let mut i = fewer(at as u64, s.len());
     while i < s.len() {
