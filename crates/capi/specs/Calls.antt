@@ -1,10 +1,12 @@
--- What C gets beside the records of the door: the nine numbers as a list, and a view as an offset and a length.
+-- The seven calls as C has them. Each record is the whole contract of one function: the record of the door's call, of the numbers that the function answers
+-- and stores. Nothing is left open (`promises`, `SettledForC`).
 use Prim.Native.Nat.{ℕ}
 use mathlib.Core.Path.{_≡_}
 use mathlib.Core.List.{List}
 use lib.ListN.{length, getD}
 use Rattle.fascn.specs.declared.Numbers.{Numbers}
-use Rattle.views.specs.Views.{View, viewed}
+use Rattle.views.specs.Views.{viewed}
+use Rattle.prosianek.specs.Calls.{Checks, Reads, Writes, Reports, Decodes, Encodes}
 
 -- nine numbers in 01's order: agency, system, credential, series, issue, person, category, organisation, association
 abbrev pub numbersOf : List ℕ → Numbers
@@ -21,9 +23,29 @@ numbersOf l =
       association = getD l 8 0;
     }
 
+pub record CChecks (kind today : ℕ) (c : List ℕ) (number place : ℕ) : Type 0 where
+  pub answers : Checks kind today c (record { number = number; place = place })
+
+pub record CReads (kind today : ℕ) (c before after : List ℕ) (number place size : ℕ) : Type 0 where
+  pub answers : Reads kind today c before after (record { number = number; place = place; length = size })
+
+pub record CWrites (kind today : ℕ) (s before after : List ℕ) (number place size : ℕ) : Type 0 where
+  pub answers : Writes kind today s before after (record { number = number; place = place; length = size })
+
 -- a view in numbers: its part has `size` bytes and starts at `offset` of the container
-pub record Shows (v : View) (number place offset size : ℕ) : Type 0 where
-  pub number-is : number ≡ v .number
-  pub place-is : place ≡ v .place
-  pub offset-is : offset ≡ v .part .offset
-  pub size-is : size ≡ length (v .part .bytes)
+pub record CViews (kind today : ℕ) (c : List ℕ) (tag number place offset size : ℕ) : Type 0 where
+  pub number-is : number ≡ viewed kind today c tag .number
+  pub place-is : place ≡ viewed kind today c tag .place
+  pub offset-is : offset ≡ viewed kind today c tag .part .offset
+  pub size-is : size ≡ length (viewed kind today c tag .part .bytes)
+
+-- no refusal of a report has another place than 0
+pub record CReports (kind today : ℕ) (c before after : List ℕ) (number size : ℕ) : Type 0 where
+  pub answers : Reports kind today c before after (record { number = number; place = 0; length = size })
+
+pub record CDecodes (s : List ℕ) (number : ℕ) (numbers : List ℕ) : Type 0 where
+  pub answers : Decodes s (record { number = number; numbers = numbersOf numbers })
+  pub nine : length numbers ≡ 9
+
+pub record CEncodes (numbers before after : List ℕ) (number : ℕ) : Type 0 where
+  pub answers : Encodes (numbersOf numbers) before after number

@@ -1,13 +1,11 @@
 // The seven calls for C: include/prosianek.h declares them. A slice is a pointer and a length there, a lent number a pointer;
-// each function answers 01's number.
-ghost use Rattle.prosianek.specs.Calls.{Checks, Reads, Writes, Reports, Decodes, Encodes};
-ghost use Rattle.views.specs.Views.{viewed};
-ghost use Rattle.capi.specs.Calls.{numbersOf, Shows};
+// each function answers 01's number. Each contract is one record of specs/Calls.antt.
+ghost use Rattle.capi.specs.Calls.{CChecks, CReads, CWrites, CViews, CReports, CDecodes, CEncodes};
 use fascn::Numbers;
 
 #[no_mangle]
 pub extern "C" fn prosianek_check(kind: u64, today: u64, container: &[u8], place: &mut u64) -> u64
-    ensures { λ r. ⌜ Checks kind today (now (container .entry)) (record { number = r; place = now (place .exit) }) ⌝ }
+    ensures { λ r. ⌜ CChecks kind today (now (container .entry)) r (now (place .exit)) ⌝ }
 {
     let v = prosianek::check(kind, today, container);
     *place = v.place;
@@ -23,7 +21,7 @@ pub extern "C" fn prosianek_read(
     place: &mut u64,
     length: &mut u64,
 ) -> u64
-    ensures { λ r. ⌜ Reads kind today (now (container .entry)) (now (sheet .entry)) (now (sheet .exit)) (record { number = r; place = now (place .exit); length = now (length .exit) }) ⌝ }
+    ensures { λ r. ⌜ CReads kind today (now (container .entry)) (now (sheet .entry)) (now (sheet .exit)) r (now (place .exit)) (now (length .exit)) ⌝ }
 {
     let done = prosianek::read(kind, today, container, sheet);
     *place = done.place;
@@ -40,7 +38,7 @@ pub extern "C" fn prosianek_write(
     place: &mut u64,
     length: &mut u64,
 ) -> u64
-    ensures { λ r. ⌜ Writes kind today (now (sheet .entry)) (now (container .entry)) (now (container .exit)) (record { number = r; place = now (place .exit); length = now (length .exit) }) ⌝ }
+    ensures { λ r. ⌜ CWrites kind today (now (sheet .entry)) (now (container .entry)) (now (container .exit)) r (now (place .exit)) (now (length .exit)) ⌝ }
 {
     let done = prosianek::write(kind, today, sheet, container);
     *place = done.place;
@@ -59,7 +57,7 @@ pub extern "C" fn prosianek_view(
     offset: &mut u64,
     length: &mut u64,
 ) -> u64
-    ensures { λ r. ⌜ Shows (viewed kind today (now (container .entry)) tag) r (now (place .exit)) (now (offset .exit)) (now (length .exit)) ⌝ }
+    ensures { λ r. ⌜ CViews kind today (now (container .entry)) tag r (now (place .exit)) (now (offset .exit)) (now (length .exit)) ⌝ }
 {
     let part = views::locate(kind, today, container, tag);
     *place = part.place;
@@ -77,7 +75,7 @@ pub extern "C" fn prosianek_report(
     room: &mut [u8],
     length: &mut u64,
 ) -> u64
-    ensures { λ r. ⌜ Reports kind today (now (container .entry)) (now (room .entry)) (now (room .exit)) (record { number = r; place = 0; length = now (length .exit) }) ⌝ }
+    ensures { λ r. ⌜ CReports kind today (now (container .entry)) (now (room .entry)) (now (room .exit)) r (now (length .exit)) ⌝ }
 {
     let done = prosianek::report(kind, today, container, room);
     *length = done.length;
@@ -86,7 +84,7 @@ pub extern "C" fn prosianek_report(
 
 #[no_mangle]
 pub extern "C" fn prosianek_fascn_decode(bytes: &[u8], numbers: &mut [u64; 9]) -> u64
-    ensures { λ r. ⌜ Decodes (now (bytes .entry)) (record { number = r; numbers = numbersOf (now (numbers .exit)) }) ⌝ }
+    ensures { λ r. ⌜ CDecodes (now (bytes .entry)) r (now (numbers .exit)) ⌝ }
 {
     let d = prosianek::decode(bytes);
     let n = d.numbers;
@@ -106,7 +104,7 @@ pub extern "C" fn prosianek_fascn_decode(bytes: &[u8], numbers: &mut [u64; 9]) -
 
 #[no_mangle]
 pub extern "C" fn prosianek_fascn_encode(numbers: &[u64; 9], room: &mut [u8]) -> u64
-    ensures { λ r. ⌜ Encodes (numbersOf (now (numbers .entry))) (now (room .entry)) (now (room .exit)) r ⌝ }
+    ensures { λ r. ⌜ CEncodes (now (numbers .entry)) (now (room .entry)) (now (room .exit)) r ⌝ }
 {
     prosianek::encode(
         Numbers {

@@ -1,78 +1,27 @@
 // The desk program: reads one digit for the kind, eight for today and a container from standard input, and prints the report,
-// or `refused N`.
-ghost use mathlib.Core.Path.{_≡_};
-ghost use Prim.Native.Nat.{_≤_, _<_};
-ghost use lib.ListN.{length};
-ghost use Rattle.laws.specs.Room.{zeros, Put};
-ghost use Rattle.desk.specs.Desk.{kindDigit, deskText, refusedText};
-use dates::Date;
+// or `refused N`. What it prints is said and proved in the crate printout; here it is read and written.
+ghost use Rattle.printout.specs.Printout.{Prints};
+use libc::STDERR_FILENO;
 use libc::STDIN_FILENO;
 use libc::STDOUT_FILENO;
 
-fn wide(x: u8) -> u64
-    ensures { λ r. ⌜ (r ≡ x) × (r < 256) ⌝ }
+// The one function of the program that writes. What it may write is a demand on its caller: what is printed for the bytes
+// that were read, and nothing else.
+fn print(input: &[u8], got: usize, text: &[u8])
+    requires { ⌜ Prints (now input) got (now text) ⌝ }
 {
-    x as u64
-}
-
-// The kind's digit as a number; 0 where there is none.
-fn kind_digit(input: &[u8]) -> u64
-    ensures { λ r. ⌜ r ≡ kindDigit (now (input .entry)) ⌝ }
-{
-    if input.len() == 0 {
-        return 0;
+    if !io::write_all(STDOUT_FILENO, text) {
+        io::write_all(
+            STDERR_FILENO,
+            b"desk: the text could not be written whole\n",
+        );
     }
-    let b = wide(input[0]);
-    if b < 48 {
-        return 0;
-    }
-    b - 48
-}
-
-// `refused N`, and a line end.
-fn put_refused(number: u64, room: &mut [u8]) -> usize
-    ensures { λ r. ⌜ Put (refusedText number) (now (room .entry)) (now (room .exit)) r ⌝ }
-{
-    let mut at = room::put_all(b"refused ", room);
-    at += texts::put_decimal(number, &mut room[at..]);
-    at += room::put_byte(10, &mut room[at..]);
-    at
-}
-
-// The same in a room that may hold anything: zeros behind it.
-fn refuse(number: u64, room: &mut [u8]) -> usize
-    ensures { λ r. ⌜ Put (refusedText number) (zeros (length (now (room .entry)))) (now (room .exit)) r ⌝ }
-{
-    room::clear(room);
-    put_refused(number, room)
-}
-
-// What is printed for an input: it goes to the front of the room, and zeros behind it. The report call clears the room by
-// itself, and its refusals leave it all zeros.
-fn answer(input: &[u8], room: &mut [u8]) -> usize
-    ensures { λ r. ⌜ Put (deskText (now (input .entry)) (length (now (room .entry)))) (zeros (length (now (room .entry)))) (now (room .exit)) r ⌝ }
-{
-    let kind = kind_digit(input);
-    if !kinds::is_kind(kind) {
-        return refuse(1, room);
-    }
-    if input.len() < 9 {
-        return refuse(2, room);
-    }
-    let Date::Is(today) = dates::date_of(&input[1..9]) else {
-        return refuse(2, room);
-    };
-    let done = prosianek::report(kind, today, &input[9..], room);
-    if done.number != 0 {
-        return put_refused(done.number, room);
-    }
-    done.length as usize
 }
 
 fn main() {
     let mut input = [0u8; 32778];
     let mut room = [0u8; 512];
     let got = io::read_full(STDIN_FILENO, &mut input);
-    let n = answer(&input[..got], &mut room);
-    io::write_all(STDOUT_FILENO, &room[..n]);
+    let n = printout::answer(&input[..got], &mut room);
+    print(&input, got, &room[..n]);
 }

@@ -11,7 +11,8 @@ use borrow.Author.Tests.{eqb-true, eq-eqb}
 use Rattle.laws.specs.Bytes.{Bytes}
 use Rattle.laws.proofs.Cases.{which, and-true, and-is, not-so}
 use Rattle.fascn.specs.Fascn.{encoded, InRange, Conforms, IsFascn}
-use Rattle.fascn.specs.Reading.{valuesOf, framed, fields, success, refused, decoded, isFascn}
+use Rattle.fascn.specs.Calls.{success, refused}
+use Rattle.fascn.specs.Reading.{valuesOf, framed, fields, decoded, isFascn}
 use Rattle.fascn.specs.declared.Numbers.{Numbers}
 use Rattle.fascn.specs.declared.Decoded.{Decoded}
 use Rattle.fascn.proofs.Framing.{checked-framed, fields-checked, framed-range, framed-checked}

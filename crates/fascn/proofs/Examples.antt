@@ -6,7 +6,8 @@ use lib.Count.{ones}
 use lib.ListN.{replicate}
 use Rattle.laws.specs.Digits.{digits}
 use Rattle.fascn.specs.Fascn.{exclusive, values, checked, characters, encoded}
-use Rattle.fascn.specs.Reading.{valuesOf, framed, decoded, success, refused}
+use Rattle.fascn.specs.Calls.{success, refused}
+use Rattle.fascn.specs.Reading.{valuesOf, framed, decoded}
 use Rattle.fascn.specs.declared.Numbers.{Numbers}
 
 abbrev pub p1-numbers : Numbers

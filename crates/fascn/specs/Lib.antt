@@ -1,3 +1,3 @@
 pub mod Fascn
-pub mod Reading
 pub mod Calls
+pub mod Reading

@@ -9,6 +9,7 @@ use Rattle.laws.specs.Digits.{digits, value}
 use Rattle.laws.specs.Layout.{part}
 use Rattle.laws.specs.Tests.{all, each}
 use Rattle.fascn.specs.Fascn.{exclusive}
+use Rattle.fascn.specs.Calls.{success, refused}
 use Rattle.fascn.specs.declared.Numbers.{Numbers}
 use Rattle.fascn.specs.declared.Decoded.{Decoded}
 
@@ -58,16 +59,7 @@ fields vs = record {
   association = field vs 37 1;
 }
 
--- "Decoding alone: any string but 25 conforming bytes is 17, with all nine numbers 0"
-abbrev pub success : Numbers → Decoded
-success n = record { number = 0; numbers = n }
-
-abbrev pub refused : Decoded
-refused = record {
-  number = 17;
-  numbers = record { agency = 0; system = 0; credential = 0; series = 0; issue = 0; person = 0; category = 0; organisation = 0; association = 0 };
-}
-
+-- the whole answer
 unfoldable pub decoded : List ℕ → Decoded
 decoded bytes = cond (eqb (length bytes) 25 && framed (valuesOf bytes)) (success (fields (valuesOf bytes))) refused
 

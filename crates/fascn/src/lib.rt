@@ -8,8 +8,8 @@ ghost use Rattle.laws.specs.Digits.{digits, value, stored, groups};
 ghost use Rattle.laws.specs.Layout.{part};
 ghost use Rattle.laws.specs.Tests.{each};
 ghost use Rattle.fascn.specs.Fascn.{symbol, exclusive, values, checked, encoded, inRange};
-ghost use Rattle.fascn.specs.Reading.{valueOf, isDigit, framed, fields, decoded, refused, isFascn};
-ghost use Rattle.fascn.specs.Calls.{Encoded};
+ghost use Rattle.fascn.specs.Reading.{valueOf, isDigit, framed, fields, decoded, isFascn};
+ghost use Rattle.fascn.specs.Calls.{refused, Encoded};
 
 pub struct Numbers {
     pub agency: u64,

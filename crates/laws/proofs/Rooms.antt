@@ -6,7 +6,7 @@ use Prim.Native.Nat.{ℕ, zero, suc, _+_, _-_, _≤_, suc-le-suc}
 use native.Mathlib.Nat.{not-suc-le-zero, zero-add, suc-add, sub-zero, suc-sub-suc, le-of-suc-le-suc}
 use native.Mathlib.Omega.{arith}
 use lib.ListN.{length, set, take, drop, drop-of-length-le, length-drop, length-append, length-replicate}
-use lib.Seq.{take-all}
+use lib.Seq.{take-all, take-append-seam, drop-append-seam}
 use borrow.Rule.Slice.PartMut.{midOf, putMid}
 use Rattle.laws.specs.Room.{zeros, filled, laid, taken, Put}
 
@@ -164,3 +164,16 @@ filled-none n = rw sub-zero
 pub length-filled : (p : List ℕ) (n : ℕ) → length p ≤ n → length (filled p n) ≡ n
 unfolding filled
 length-filled p n h = rw (length-append, length-replicate) (omega arith)
+
+-- the text at the front of a filled room, and the zeros behind it
+pub filled-front : (p : List ℕ) (n : ℕ) → take (length p) (filled p n) ≡ p
+unfolding filled
+filled-front p n = take-append-seam p (zeros (n - length p))
+
+pub filled-behind : (p : List ℕ) (n : ℕ) → drop (length p) (filled p n) ≡ zeros (n - length p)
+unfolding filled
+filled-behind p n = drop-append-seam p (zeros (n - length p))
+
+-- a text that was put into a room of zeros which it fits stands there whole
+pub put-front : {p e : List ℕ} {k n : ℕ} → length p ≤ k → Put p (zeros k) e n → take n e ≡ p
+put-front {p} {e} {k} {n} h w = let f = put-filled refl h w in rw (f .1, f .0) (filled-front p k)

@@ -10,14 +10,14 @@ use lib.Dec.{ltb}
 use borrow.Author.Tests.{le-ltb}
 use Rattle.laws.specs.Bytes.{Bytes}
 use Rattle.laws.proofs.Cases.{which}
-use Rattle.fascn.specs.Fascn.{encoded, inRange, IsFascn}
-use Rattle.fascn.specs.Reading.{decoded, success}
-use Rattle.fascn.specs.Calls.{status, output, Encoded}
+use Rattle.laws.proofs.Rooms.{filled-front}
+use Rattle.fascn.specs.Fascn.{Conforms as IsFascnOf, encoded, inRange}
+use Rattle.fascn.specs.Calls.{success, status, output, Encoded}
 use Rattle.fascn.specs.declared.Numbers.{Numbers}
 use Rattle.fascn.specs.declared.Decoded.{Decoded}
 use Rattle.fascn.proofs.Framing.{range-exact}
 use Rattle.fascn.proofs.Packing.{length-encoded}
-use Rattle.fascn.proofs.Codec.{decoded-exact, round-trip}
+use Rattle.fascn.proofs.Codec.{decoded-exact}
 use Rattle.verdicts.specs.Verdicts.{numberOf, verdictOf}
 use Rattle.verdicts.specs.declared.Fault.{Fault}
 use Rattle.verdicts.specs.declared.Verdict.{Verdict}
@@ -36,13 +36,14 @@ use Rattle.writing.specs.Writing.{writeOutput}
 use Rattle.writing.proofs.Promise.{accepted, read-values, read-write, write-read}
 use Rattle.views.specs.Views.{View, viewed}
 use Rattle.views.proofs.Elements.{Shows, element-view, absent-view, foreign-view}
-use Rattle.prosianek.specs.Calls.{Reads, Writes, Views}
+use Rattle.prosianek.specs.Calls.{Reads, Writes, Views, Decodes}
+use Rattle.prosianek.proofs.Decoding.{is-decoded}
 use Rattle.promises.specs.Demands.{Shown, Demand2}
-use Rattle.promises.proofs.Rooms.{front, text-of, gave}
+use Rattle.promises.proofs.Rooms.{text-of, gave}
 
 -- ---- the first broken rule
 
-first-named : (kind today : ℕ) (c : List ℕ) → Bytes c → (r : Verdict) → r ≡ verdict kind today c → (r .number ≡ 0 → ⊥)
+pub first-named : (kind today : ℕ) (c : List ℕ) → Bytes c → (r : Verdict) → r ≡ verdict kind today c → (r .number ≡ 0 → ⊥)
     → (f : Fault) × (r .number ≡ numberOf f) × Named kind today c f (r .place)
 unfolding outcome
 first-named kind today c b r a n = go (parsed kind today c) refl
@@ -117,8 +118,9 @@ shown kind today c tag s a = record {
 
 -- ---- a FASC-N alone
 
-decodes : (s : List ℕ) → Bytes s → (decoded s .number ≡ 0) ↔ IsFascn s
-decodes s b = (λ z. (decoded s .numbers, decoded-exact s b (decoded s .numbers) .0 (λ i. record { number = z i; numbers = decoded s .numbers })), λ f. rw (decoded-exact s b (f .0) .1 (f .1)))
+-- what was decoded to 0 is the FASC-N of the numbers that were answered
+decodes : (s : List ℕ) → Bytes s → (r : Decoded) → Decodes s r → r .number ≡ 0 → IsFascnOf s (r .numbers)
+decodes s b r d z = decoded-exact s b (r .numbers) .0 (sym (is-decoded s b r .0 d) ∙ (λ i. record { number = z i; numbers = r .numbers }))
 
 encoded-0 : (n : Numbers) (d e : List ℕ) → Encoded n d e 0 → (inRange n ≡ true) × (take 25 e ≡ encoded n)
 unfolding status output
@@ -127,7 +129,7 @@ encoded-0 n d e l =
       | inl r ↦
           elim (which (ltb (length d) 25)) [
             | inl s ↦ let z : _≡_ {A = ℕ} 0 3 = l .answer ∙ rw (r, s) in absurd (omega arith)
-            | inr s ↦ (r, rw (length-encoded n) at (ap (take (length (encoded n))) (l .room ∙ rw (r, s)) ∙ front (encoded n) (length d)))
+            | inr s ↦ (r, rw (length-encoded n) at (ap (take (length (encoded n))) (l .room ∙ rw (r, s)) ∙ filled-front (encoded n) (length d)))
           ]
       | inr r ↦ let z : _≡_ {A = ℕ} 0 7 = l .answer ∙ rw r in absurd (omega arith)
     ]
@@ -158,14 +160,13 @@ demand-2 = record {
   view-foreign = λ kind today c b vs h t n at number place part bytes a.
       let w = foreign-view kind today c b vs h t n in
       (a .shows .number-is ∙ ap (λ (v : View). v .number) w, a .shows .bytes-are ∙ ap (λ (v : View). v .part .bytes) w);
-  decodes-when = λ s b r a. rw (a .answer) (decodes s b);
-  encode-then-decode = λ n before after h r a.
+  decodes-when = λ s b r d. (λ z. (r .numbers, decodes s b r d z), λ f. ap (λ (d : Decoded). d .number) (d .good (f .0) (f .1)));
+  encode-then-decode = λ n before after h r d.
       let e = encoded-0 n before after (h .leaves) in
-      let q : r ≡ success n = a .answer ∙ ap decoded (e .1) ∙ round-trip n (range-exact n .0 (e .0)) in
+      let q : r ≡ success n = d .good n (record { in-range = range-exact n .0 (e .0); written = e .1 }) in
       (ap (λ (d : Decoded). d .number) q, ap (λ (d : Decoded). d .numbers) q);
-  decode-then-encode = λ s b r a z before after number h l.
-      let q : decoded s ≡ success (r .numbers) = sym (a .answer) ∙ (λ i. record { number = z i; numbers = r .numbers }) in
-      let c = decoded-exact s b (r .numbers) .0 q in
+  decode-then-encode = λ s b r d z before after number h l.
+      let c = decodes s b r d z in
       let k = encoding (r .numbers) before after number (range-exact (r .numbers) .1 (c .in-range)) l (h .leaves) in
       (k, encoded-0 (r .numbers) before after (rw k at (h .leaves)) .1 ∙ sym (c .written));
 }

@@ -1,26 +1,16 @@
 -- What a call left in a room, by its output. Assumes nothing.
-use Prim.Native.Nat.{ℕ, _-_, _≤_}
+use Prim.Native.Nat.{ℕ, _≤_}
 use mathlib.Core.Logic.{inl, inr}
 use mathlib.Core.Path.{_≡_, refl, sym, ap, _∙_}
 use mathlib.Core.List.{List, []}
 use native.Mathlib.Omega.{arith}
-use lib.ListN.{length, take, drop}
-use lib.Seq.{take-append-seam, drop-append-seam}
-use Rattle.laws.specs.Room.{zeros, filled}
-use Rattle.laws.proofs.Rooms.{length-filled, filled-none}
+use lib.ListN.{length, take}
+use Rattle.laws.specs.Room.{filled}
+use Rattle.laws.proofs.Rooms.{length-filled, filled-none, filled-front, filled-behind}
 use Rattle.verdicts.specs.Output.{Output, refusal, text, bytesOf, doneOf, Leaves}
 use Rattle.verdicts.specs.declared.Done.{Done}
 use Rattle.verdicts.proofs.Apart.{never-zero}
 use Rattle.promises.specs.Demands.{Numbered, Clean}
-
--- the text at the front of a filled room, and the zeros behind it
-pub front : (t : List ℕ) (n : ℕ) → take (length t) (filled t n) ≡ t
-unfolding filled
-front t n = take-append-seam t (zeros (n - length t))
-
-pub back : (t : List ℕ) (n : ℕ) → drop (length t) (filled t n) ≡ zeros (n - length t)
-unfolding filled
-back t n = drop-append-seam t (zeros (n - length t))
 
 -- every output has an answer
 pub answer : (o : Output) (d : List ℕ) → Leaves o d (filled (bytesOf o) (length d)) (doneOf o)
@@ -29,11 +19,11 @@ answer o d = record { answer = refl; room = refl }
 -- the output of a call that answered 0
 pub text-of : (o : Output) (d : List ℕ) {e : List ℕ} {r : Done} → Leaves o d e r → r .number ≡ 0 → (t : List ℕ) × (o ≡ text t) × (take (r .length) e ≡ t)
 text-of (refusal f p) d l z = absurd (never-zero f (sym (ap (λ (x : Done). x .number) (l .answer)) ∙ z))
-text-of (text t) d l z = (t, refl, rw (l .answer, l .room) (front t (length d)))
+text-of (text t) d l z = (t, refl, rw (l .answer, l .room) (filled-front t (length d)))
 
 -- and what a call left that has an output
 pub gave : {o : Output} {t : List ℕ} (d : List ℕ) {e : List ℕ} {r : Done} → o ≡ text t → Leaves o d e r → (r .number ≡ 0) × (take (r .length) e ≡ t)
-gave {t = t} d q l = (rw (l .answer, q), rw (l .answer, l .room, q) (front t (length d)))
+gave {t = t} d q l = (rw (l .answer, q), rw (l .answer, l .room, q) (filled-front t (length d)))
 
 -- an output that goes into a room of so many bytes
 abbrev pub Fits : ℕ → Output → Type 0
@@ -48,7 +38,7 @@ left-nothing d n q =
       same-room = length-filled [] (length d) (omega arith);
       refused = λ z. sym (filled-none (length d));
       inside = omega arith;
-      behind = back [] (length d);
+      behind = filled-behind [] (length d);
     })
 
 pub left-text : (t d : List ℕ) {e : List ℕ} {k : ℕ} → k ≡ 0 → length t ≤ length d → e ≡ filled t (length d) → Clean d e k (length t)
@@ -58,7 +48,7 @@ left-text t d z h q =
       same-room = length-filled t (length d) h;
       refused = λ n. absurd (n z);
       inside = h;
-      behind = back t (length d);
+      behind = filled-behind t (length d);
     })
 
 pub clean : (o : Output) (d : List ℕ) {e : List ℕ} {r : Done} → Fits (length d) o → Leaves o d e r → Clean d e (r .number) (r .length)

@@ -1,7 +1,22 @@
 -- Any two results that satisfy a call's contract are equal. Assumes nothing.
-use mathlib.Core.Path.{sym, _∙_}
+use Prim.Native.Nat.{ℕ}
+use mathlib.Core.Path.{_≡_, sym, ap, _∙_}
+use mathlib.Core.List.{List, [], _∷_}
+use lib.ListN.{length}
+use Rattle.laws.specs.Bytes.{Bytes}
+use Rattle.laws.proofs.Layouts.{by-entries}
+use Rattle.fascn.specs.declared.Numbers.{Numbers}
+use Rattle.fascn.specs.declared.Decoded.{Decoded}
+use Rattle.verdicts.specs.declared.Verdict.{Verdict}
+use Rattle.verdicts.specs.declared.Done.{Done}
 use Rattle.verdicts.proofs.Outputs.{settled as settled-output}
-use Rattle.promises.specs.Demands.{Settled}
+use Rattle.prosianek.specs.Calls.{Decodes}
+use Rattle.prosianek.proofs.Decoding.{is-decoded}
+use Rattle.capi.specs.Calls.{numbersOf}
+use Rattle.promises.specs.Demands.{Settled, SettledForC}
+
+one-decode : (s : List ℕ) → Bytes s → (r₁ r₂ : Decoded) → Decodes s r₁ → Decodes s r₂ → r₁ ≡ r₂
+one-decode s b r₁ r₂ d e = is-decoded s b r₁ .0 d ∙ sym (is-decoded s b r₂ .0 e)
 
 pub settled : Settled
 settled = record {
@@ -15,9 +30,49 @@ settled = record {
     a .shows .bytes-are ∙ sym (b .shows .bytes-are),
   );
   one-report = λ kind today c before₁ before₂ after₁ after₂ r₁ r₂ h a b. settled-output _ before₁ before₂ h (a .leaves) (rw h (b .leaves));
-  one-decode = λ s r₁ r₂ a b. a .answer ∙ sym (b .answer);
+  one-decode = one-decode;
   one-encode = λ n before₁ before₂ after₁ after₂ k₁ k₂ h a b. (
     a .leaves .answer ∙ rw h (sym (b .leaves .answer)),
     a .leaves .room ∙ rw h (sym (b .leaves .room)),
   );
+}
+
+-- ---- the functions for C
+
+number-of : {n₁ n₂ p₁ p₂ l₁ l₂ : ℕ} → _≡_ {A = Done} (record { number = n₁; place = p₁; length = l₁ }) (record { number = n₂; place = p₂; length = l₂ })
+    → (n₁ ≡ n₂) × (p₁ ≡ p₂) × (l₁ ≡ l₂)
+number-of e = (ap (λ (d : Done). d .number) e, ap (λ (d : Done). d .place) e, ap (λ (d : Done). d .length) e)
+
+-- nine numbers are the list that they were taken from
+entriesOf : Numbers → List ℕ
+entriesOf n = n .agency ∷ n .system ∷ n .credential ∷ n .series ∷ n .issue ∷ n .person ∷ n .category ∷ n .organisation ∷ n .association ∷ []
+
+nine-of : (l m : List ℕ) → length l ≡ 9 → length m ≡ 9 → numbersOf l ≡ numbersOf m → l ≡ m
+unfolding entriesOf
+nine-of l m h k e = by-entries 9 l h ∙ ap entriesOf e ∙ sym (by-entries 9 m k)
+
+pub settled-for-c : SettledForC
+settled-for-c = record {
+  one-check = λ kind today c n₁ n₂ p₁ p₂ a b.
+      let e = settled .one-check kind today c _ _ (a .answers) (b .answers) in
+      (ap (λ (v : Verdict). v .number) e, ap (λ (v : Verdict). v .place) e);
+  one-read = λ kind today c before₁ before₂ after₁ after₂ n₁ n₂ p₁ p₂ l₁ l₂ h a b.
+      let e = settled .one-read kind today c before₁ before₂ after₁ after₂ _ _ h (a .answers) (b .answers) in
+      let d = number-of (e .0) in
+      (d .0, d .1, d .2, e .1);
+  one-write = λ kind today s before₁ before₂ after₁ after₂ n₁ n₂ p₁ p₂ l₁ l₂ h a b.
+      let e = settled .one-write kind today s before₁ before₂ after₁ after₂ _ _ h (a .answers) (b .answers) in
+      let d = number-of (e .0) in
+      (d .0, d .1, d .2, e .1);
+  one-view = λ kind today c tag n₁ n₂ p₁ p₂ o₁ o₂ l₁ l₂ a b.
+      (a .number-is ∙ sym (b .number-is), a .place-is ∙ sym (b .place-is), a .offset-is ∙ sym (b .offset-is), a .size-is ∙ sym (b .size-is));
+  one-report = λ kind today c before₁ before₂ after₁ after₂ n₁ n₂ l₁ l₂ h a b.
+      let e = settled .one-report kind today c before₁ before₂ after₁ after₂ _ _ h (a .answers) (b .answers) in
+      let d = number-of (e .0) in
+      (d .0, d .2, e .1);
+  one-decode = λ s b n₁ n₂ nine₁ nine₂ x y.
+      let e = one-decode s b _ _ (x .answers) (y .answers) in
+      (ap (λ (d : Decoded). d .number) e, nine-of nine₁ nine₂ (x .nine) (y .nine) (ap (λ (d : Decoded). d .numbers) e));
+  one-encode = λ nine before₁ before₂ after₁ after₂ n₁ n₂ h a b.
+      settled .one-encode (numbersOf nine) before₁ before₂ after₁ after₂ n₁ n₂ h (a .answers) (b .answers);
 }

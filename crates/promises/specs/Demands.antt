@@ -1,25 +1,27 @@
 -- The user's three demands, in the user's order and words, as statements about the seven calls of the door (`Checks`, `Reads`, `Writes`, `Views`,
 -- `Reports`, `Decodes`, `Encodes`: what a call answers and leaves). Each is a record of statements, and `proofs/` has the theorem for each: `demand-1`,
--- `demand-2`, `demand-3`; and `settled`, that no answer is left open.
+-- `demand-2`, `demand-3`; `at-the-desk`, the third of what the desk program prints; `settled` and `settled-for-c`, that no answer is left open.
 --
 -- A room is `before` when it is lent and `after` when it comes back. `Bytes c` says that each number of c is below 256, as it is in every slice that a
 -- program can give.
-use Prim.Native.Nat.{ℕ, _+_, _-_, _≤_}
+use Prim.Native.Nat.{ℕ, _+_, _-_, _≤_, _<_}
 use mathlib.Core.Logic.{_⊎_, _↔_}
 use mathlib.Core.Path.{_≡_}
 use mathlib.Core.Bool.{Bool}
 use mathlib.Core.Option.{none, some}
-use mathlib.Core.List.{List, []}
+use mathlib.Core.List.{List, [], _∷_}
 use lib.ListN.{length, take, drop, getD}
 use Rattle.laws.specs.Bytes.{Bytes}
 use Rattle.laws.specs.Room.{zeros, filled}
-use Rattle.dates.specs.Date.{IsDate}
-use Rattle.fascn.specs.Fascn.{IsFascn}
+use Rattle.texts.specs.Text.{digit}
+use Rattle.dates.specs.Date.{IsDate, IsTextDate}
+use Rattle.fascn.specs.Fascn.{Conforms as IsFascnOf, IsFascn}
+use Rattle.fascn.specs.Calls.{noNumbers}
 use Rattle.fascn.specs.declared.Numbers.{Numbers}
 use Rattle.fascn.specs.declared.Decoded.{Decoded}
 use Rattle.verdicts.specs.Verdicts.{numberOf}
 use Rattle.verdicts.specs.declared.Fault.{Fault}
-use Rattle.verdicts.specs.declared.Fault.the-variants.{NoElement}
+use Rattle.verdicts.specs.declared.Fault.the-variants.{UnknownKind, NoDate, LargeContainer, NoElement, BadFascn}
 use Rattle.verdicts.specs.declared.Verdict.{Verdict}
 use Rattle.verdicts.specs.declared.Done.{Done}
 use Rattle.kinds.specs.Tables.{table, IsKind, rowAt}
@@ -28,9 +30,11 @@ use Rattle.container.specs.Container.{Values, Conforms, largest}
 use Rattle.container.specs.Reading.{parsed}
 use Rattle.container.specs.InOrder.{Named}
 use Rattle.sheet.specs.Sheet.{IsSheet}
-use Rattle.report.specs.Open.{openOf, shape}
+use Rattle.report.specs.Open.{agencyOf, systemOf, openOf, shape}
 use Rattle.report.specs.Report.{reportText}
 use Rattle.prosianek.specs.Calls.{Checks, Reads, Writes, Views, Reports, Decodes, Encodes}
+use Rattle.printout.specs.Printout.{refusedText, printed, Asks}
+use Rattle.capi.specs.Calls.{CChecks, CReads, CWrites, CViews, CReports, CDecodes, CEncodes}
 
 -- ---- Demand 1. "Every byte string, date and room size gets an answer, and every call ends. Bad input is refused by number, without the caller having
 -- checked it. A refusal leaves the lent output room all zeros; a success leaves zeros after the last byte of output."
@@ -57,7 +61,7 @@ pub record Demand1 : Type 0 where
   pub view-answers : (kind today : ℕ) (c : List ℕ) (tag : ℕ) (at : ℕ × ℕ)
       → (number place : ℕ) × (part : ℕ × ℕ) × (bytes : List ℕ) × Views kind today c tag at number place part bytes × Numbered number
   pub report-answers : (kind today : ℕ) (c before : List ℕ) → (after : List ℕ) × (r : Done) × Reports kind today c before after r
-  pub decode-answers : (s : List ℕ) → (r : Decoded) × Decodes s r × Numbered (r .number)
+  pub decode-answers : (s : List ℕ) → Bytes s → (r : Decoded) × Decodes s r × Numbered (r .number)
   pub encode-answers : (n : Numbers) (before : List ℕ) → (after : List ℕ) × (number : ℕ) × Encodes n before after number
   -- and it leaves a lent room clean
   pub read-clean : (kind today : ℕ) (c before after : List ℕ) (r : Done) → Reads kind today c before after r → Clean before after (r .number) (r .length)
@@ -65,6 +69,8 @@ pub record Demand1 : Type 0 where
   pub report-clean : (kind today : ℕ) (c before after : List ℕ) (r : Done) → Reports kind today c before after r → Clean before after (r .number) (r .length)
   pub encode-clean : (n : Numbers) (before after : List ℕ) (number : ℕ) → Encodes n before after number
       → ((number ≡ 0) × Clean before after number 25) ⊎ ((number ≡ 0 → ⊥) × Clean before after number 0)
+  -- "any string but 25 conforming bytes is 17, with all nine numbers 0"
+  pub decode-clean : (s : List ℕ) → Bytes s → (r : Decoded) → Decodes s r → (r .number ≡ 0 → ⊥) → (r .number ≡ numberOf BadFascn) × (r .numbers ≡ noNumbers)
 
 -- ---- Demand 2. "Under a given date a container of a known kind conforms exactly when some values allowed by the rules are written as those bytes;
 -- otherwise the first broken rule and its place are named. Writing the values that were read gives the container back byte for byte, and reading what was
@@ -142,14 +148,42 @@ pub record Demand3 : Type 0 where
   pub nothing-of-refused : (kind today : ℕ) (c d : List ℕ) (v : Verdict) → Checks kind today c v → Checks kind today d v → (v .number ≡ 0 → ⊥) → length c ≡ length d
       → (before₁ before₂ after₁ after₂ : List ℕ) (r₁ r₂ : Done) → length before₁ ≡ length before₂
       → Reports kind today c before₁ after₁ r₁ → Reports kind today d before₂ after₂ r₂ → (r₁ ≡ r₂) × (after₁ ≡ after₂)
+  -- the reports are what was written, in rooms of any two lengths
   pub conversely : (k t l u : ℕ) (vs ws : Values) (c d : List ℕ) → Bytes c → Bytes d → Conforms k t vs c → Conforms l u ws d
-      → (before₁ before₂ after : List ℕ) (r₁ r₂ : Done) → 512 ≤ length before₁ → 512 ≤ length before₂
-      → Reports k t c before₁ after r₁ → Reports l u d before₂ after r₂
+      → (before₁ before₂ after₁ after₂ : List ℕ) (r₁ r₂ : Done) → 512 ≤ length before₁ → 512 ≤ length before₂
+      → Reports k t c before₁ after₁ r₁ → Reports l u d before₂ after₂ r₂ → take (r₁ .length) after₁ ≡ take (r₂ .length) after₂
       → (k ≡ l) × (t ≡ u) × (shape vs ≡ shape ws) × (openOf k vs ≡ openOf k ws)
   -- no report is cut off: it is the whole text, of at most 512 bytes, and zeros behind it
   pub whole-text : (kind today : ℕ) (c : List ℕ) → Bytes c → IsKind kind → IsDate today → length c ≤ largest
       → (before after : List ℕ) (r : Done) → 512 ≤ length before → Reports kind today c before after r
-      → (r .number ≡ 0) × (r .length ≤ 512) × (after ≡ filled (reportText kind today (length c) (parsed kind today c)) (length before))
+      → let report : List ℕ = reportText kind today (length c) (parsed kind today c) in
+      (r .number ≡ 0) × (r .length ≡ length report) × (r .length ≤ 512) × (after ≡ filled report (length before))
+  -- the agency and the system among the open values are those of the nine numbers whose FASC-N it is
+  pub open-numbers : (f : List ℕ) (n : Numbers) → IsFascnOf f n → (agencyOf f ≡ n .agency) × (systemOf f ≡ n .system)
+
+-- The same of the text that the desk program prints, for whatever stands on its standard input: `printed s` is what may go to standard output.
+
+pub record AtTheDesk : Type 0 where
+  -- what is printed: the report, for a kind, a date and a container of at most 32,768 bytes; else a refusal, which tells its number and nothing else
+  pub report-printed : (s : List ℕ) (kind today : ℕ) (c : List ℕ) → Bytes c → Asks s kind today c → IsKind kind → length c ≤ largest
+      → printed s ≡ reportText kind today (length c) (parsed kind today c)
+  pub kind-refused : (s : List ℕ) → ((kind : ℕ) → IsKind kind → take 1 s ≡ digit kind ∷ [] → ⊥) → printed s ≡ refusedText (numberOf UnknownKind)
+  pub date-refused : (s : List ℕ) (kind : ℕ) → IsKind kind → take 1 s ≡ digit kind ∷ [] → (IsTextDate (take 8 (drop 1 s)) → ⊥)
+      → printed s ≡ refusedText (numberOf NoDate)
+  pub size-refused : (s : List ℕ) (kind today : ℕ) (c : List ℕ) → Asks s kind today c → IsKind kind → largest < length c
+      → printed s ≡ refusedText (numberOf LargeContainer)
+  -- "Replace the personal values .. the desk report is the same in every byte."
+  pub nothing-personal : (kind today : ℕ) (vs ws : Values) (c d : List ℕ) → Bytes c → Bytes d → Conforms kind today vs c → Conforms kind today ws d
+      → shape vs ≡ shape ws → openOf kind vs ≡ openOf kind ws → (s u : List ℕ) → Asks s kind today c → Asks u kind today d → printed s ≡ printed u
+  -- "Two refused containers of one kind and length, same date, same broken rule at the same place, get the same report."
+  pub nothing-of-refused : (kind today : ℕ) (c d : List ℕ) (v : Verdict) → Checks kind today c v → Checks kind today d v → (v .number ≡ 0 → ⊥) → length c ≡ length d
+      → (s u : List ℕ) → Asks s kind today c → Asks u kind today d → printed s ≡ printed u
+  -- "Conversely, two conforming containers with equal reports have the same kind, tags, lengths and open values."
+  pub conversely : (k t l u : ℕ) (vs ws : Values) (c d : List ℕ) → Bytes c → Bytes d → Conforms k t vs c → Conforms l u ws d
+      → (s₁ s₂ : List ℕ) → Asks s₁ k t c → Asks s₂ l u d → printed s₁ ≡ printed s₂
+      → (k ≡ l) × (t ≡ u) × (shape vs ≡ shape ws) × (openOf k vs ≡ openOf k ws)
+  -- no text is longer than the room of 512 bytes, so none is cut off
+  pub never-cut : (s : List ℕ) → length (printed s) ≤ 512
 
 -- ---- "For each public call the contract determines number, place, returned part and each byte of lent room, on every input and every refusal. Any two
 -- results that satisfy it are shown equal." Rooms of one length may have held anything before. (A returned part has a block, an offset and bytes; the ghost
@@ -166,6 +200,21 @@ pub record Settled : Type 0 where
       → (n₁ ≡ n₂) × (p₁ ≡ p₂) × (part₁ ≡ part₂) × (bytes₁ ≡ bytes₂)
   pub one-report : (kind today : ℕ) (c before₁ before₂ after₁ after₂ : List ℕ) (r₁ r₂ : Done) → length before₁ ≡ length before₂
       → Reports kind today c before₁ after₁ r₁ → Reports kind today c before₂ after₂ r₂ → (r₁ ≡ r₂) × (after₁ ≡ after₂)
-  pub one-decode : (s : List ℕ) (r₁ r₂ : Decoded) → Decodes s r₁ → Decodes s r₂ → r₁ ≡ r₂
+  pub one-decode : (s : List ℕ) → Bytes s → (r₁ r₂ : Decoded) → Decodes s r₁ → Decodes s r₂ → r₁ ≡ r₂
   pub one-encode : (n : Numbers) (before₁ before₂ after₁ after₂ : List ℕ) (k₁ k₂ : ℕ) → length before₁ ≡ length before₂
       → Encodes n before₁ after₁ k₁ → Encodes n before₂ after₂ k₂ → (k₁ ≡ k₂) × (after₁ ≡ after₂)
+
+-- the same of the functions for C, which answer a number and store the others
+pub record SettledForC : Type 0 where
+  pub one-check : (kind today : ℕ) (c : List ℕ) (n₁ n₂ p₁ p₂ : ℕ) → CChecks kind today c n₁ p₁ → CChecks kind today c n₂ p₂ → (n₁ ≡ n₂) × (p₁ ≡ p₂)
+  pub one-read : (kind today : ℕ) (c before₁ before₂ after₁ after₂ : List ℕ) (n₁ n₂ p₁ p₂ l₁ l₂ : ℕ) → length before₁ ≡ length before₂
+      → CReads kind today c before₁ after₁ n₁ p₁ l₁ → CReads kind today c before₂ after₂ n₂ p₂ l₂ → (n₁ ≡ n₂) × (p₁ ≡ p₂) × (l₁ ≡ l₂) × (after₁ ≡ after₂)
+  pub one-write : (kind today : ℕ) (s before₁ before₂ after₁ after₂ : List ℕ) (n₁ n₂ p₁ p₂ l₁ l₂ : ℕ) → length before₁ ≡ length before₂
+      → CWrites kind today s before₁ after₁ n₁ p₁ l₁ → CWrites kind today s before₂ after₂ n₂ p₂ l₂ → (n₁ ≡ n₂) × (p₁ ≡ p₂) × (l₁ ≡ l₂) × (after₁ ≡ after₂)
+  pub one-view : (kind today : ℕ) (c : List ℕ) (tag n₁ n₂ p₁ p₂ o₁ o₂ l₁ l₂ : ℕ)
+      → CViews kind today c tag n₁ p₁ o₁ l₁ → CViews kind today c tag n₂ p₂ o₂ l₂ → (n₁ ≡ n₂) × (p₁ ≡ p₂) × (o₁ ≡ o₂) × (l₁ ≡ l₂)
+  pub one-report : (kind today : ℕ) (c before₁ before₂ after₁ after₂ : List ℕ) (n₁ n₂ l₁ l₂ : ℕ) → length before₁ ≡ length before₂
+      → CReports kind today c before₁ after₁ n₁ l₁ → CReports kind today c before₂ after₂ n₂ l₂ → (n₁ ≡ n₂) × (l₁ ≡ l₂) × (after₁ ≡ after₂)
+  pub one-decode : (s : List ℕ) → Bytes s → (n₁ n₂ : ℕ) (nine₁ nine₂ : List ℕ) → CDecodes s n₁ nine₁ → CDecodes s n₂ nine₂ → (n₁ ≡ n₂) × (nine₁ ≡ nine₂)
+  pub one-encode : (nine before₁ before₂ after₁ after₂ : List ℕ) (n₁ n₂ : ℕ) → length before₁ ≡ length before₂
+      → CEncodes nine before₁ after₁ n₁ → CEncodes nine before₂ after₂ n₂ → (n₁ ≡ n₂) × (after₁ ≡ after₂)

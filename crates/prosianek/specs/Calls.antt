@@ -4,8 +4,8 @@ use Prim.Native.Nat.{ℕ}
 use mathlib.Core.Path.{_≡_}
 use mathlib.Core.List.{List}
 use lib.ListN.{length}
-use Rattle.fascn.specs.Reading.{decoded}
-use Rattle.fascn.specs.Calls.{Encoded}
+use Rattle.fascn.specs.Fascn.{Conforms, IsFascn}
+use Rattle.fascn.specs.Calls.{success, refused, Encoded}
 use Rattle.fascn.specs.declared.Numbers.{Numbers}
 use Rattle.fascn.specs.declared.Decoded.{Decoded}
 use Rattle.verdicts.specs.Output.{Leaves}
@@ -38,9 +38,10 @@ pub record Views (kind today : ℕ) (c : List ℕ) (tag : ℕ) (at : ℕ × ℕ)
 pub record Reports (kind today : ℕ) (c before after : List ℕ) (r : Done) : Type 0 where
   pub leaves : Leaves (reportOutput kind today c (length before)) before after r
 
--- "Decoding alone: any string but 25 conforming bytes is 17, with all nine numbers 0."
+-- "Decoding alone: any string but 25 conforming bytes is 17, with all nine numbers 0": bytes that are the FASC-N of nine numbers give these numbers
 pub record Decodes (s : List ℕ) (r : Decoded) : Type 0 where
-  pub answer : r ≡ decoded s
+  pub good : (n : Numbers) → Conforms s n → r ≡ success n
+  pub else-refused : (IsFascn s → ⊥) → r ≡ refused
 
 -- "Encoding alone: 7, then 3 for a room under 25."
 pub record Encodes (n : Numbers) (before after : List ℕ) (number : ℕ) : Type 0 where

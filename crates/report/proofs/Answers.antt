@@ -10,13 +10,15 @@ use borrow.Author.Tests.{lt-ltb, le-ltb, lt-leb, le-leb, ltb-false}
 use Rattle.laws.specs.Bytes.{Bytes}
 use Rattle.laws.proofs.Cases.{which}
 use Rattle.dates.specs.Date.{isDate}
+use Rattle.dates.proofs.Dates.{date-exact}
 use Rattle.kinds.specs.Tables.{isKind}
 use Rattle.verdicts.specs.Output.{Output, refusal, text}
 use Rattle.verdicts.specs.declared.Fault.{Fault}
 use Rattle.verdicts.specs.declared.Fault.the-variants.{UnknownKind, NoDate, SmallRoom, LargeContainer, LongReport}
 use Rattle.verdicts.specs.declared.Outcome.the-variants.{Broken}
-use Rattle.container.specs.Container.{largest}
-use Rattle.container.specs.Reading.{fault, outer, parsed, outcome}
+use Rattle.container.specs.Container.{Values, Conforms, largest}
+use Rattle.container.specs.Reading.{values, fault, outer, parsed, outcome}
+use Rattle.container.proofs.Promise.{kind-exact, conforms-parsed}
 use Rattle.container.proofs.Named.{broken-fault}
 use Rattle.report.specs.Report.{reportText}
 use Rattle.report.specs.Calls.{fitting, reportOutput}
@@ -59,6 +61,11 @@ module _ (kind today : ℕ) (c : List ℕ) (room : ℕ) where
           pub report-0 : Bytes c → reportOutput kind today c room ≡ text (reportText kind today (length c) (parsed kind today c))
           unfolding reportOutput
           report-0 b = rw (k, d, le-ltb _ _ l, le-leb _ _ g, is-outer, le-ltb _ _ (report-length kind today c b g))
+
+  -- of a container that conforms, the report of its values
+  pub conforming-output : Bytes c → (vs : Values) → Conforms kind today vs c → 512 ≤ room → reportOutput kind today c room ≡ text (reportText kind today (length c) (values vs))
+  conforming-output b vs h l =
+      rw (conforms-parsed kind today c b vs h) at (report-0 (kind-exact kind .1 (h .kind-is)) (date-exact today .1 (h .date-is)) l (h .size-is) b)
 
   -- all that a call can answer: a refusal without a place, or a whole report in a room of at least 512 bytes
   pub report-cases : (P : Output → Type 0) → ((f : Fault) → P (refusal f 0)) → ((t : List ℕ) → 512 ≤ room → length t ≤ 512 → P (text t)) → P (reportOutput kind today c room)

@@ -8,7 +8,7 @@ use mathlib.Core.List.{List, [], _∷_, _++_}
 use native.Mathlib.Omega.{arith}
 use lib.Dec.{leb, eqb}
 use lib.ListN.{length, drop, length-append, length-drop}
-use borrow.Author.Tests.{le-ltb, eqb-true, leb-true}
+use borrow.Author.Tests.{eqb-true, leb-true}
 use Rattle.laws.specs.Bytes.{Bytes}
 use Rattle.laws.proofs.Bases.{below-drop}
 use Rattle.laws.proofs.Cases.{test, which, and-true}
@@ -17,10 +17,10 @@ use Rattle.lengths.proofs.Spellings.{inside}
 use Rattle.texts.specs.Text.{ascii}
 use Rattle.texts.proofs.Bounds.{decimal-length, fixed-length, hex-length, tag-most}
 use Rattle.kinds.specs.Tables.{Entry, Table, table, printed, Permitted}
-use Rattle.verdicts.specs.Output.{text}
 use Rattle.verdicts.specs.Verdicts.{numberOf}
 use Rattle.verdicts.specs.declared.Fault.{Fault}
-use Rattle.verdicts.specs.declared.Fault.the-variants.{UnknownKind, NoDate, SmallRoom, LargeContainer, TornSheet, NoElement, LongNumber, LongReport, OuterTag, LengthForm, Overrun, UnknownTag, TagOrder, MissingRow, ElementLength, BadFascn, BadUuid, BadDate, BadFixed, BadHeader, BadMinutiae, BadText}
+use Rattle.verdicts.specs.declared.Fault.the-variants.{MissingRow}
+use Rattle.verdicts.proofs.Apart.{number-small}
 use Rattle.container.specs.Container.{Values, tagBytes, outerTag, Fits, Allowed}
 use Rattle.container.specs.Reading.{Parsed, values, fault, prepend, Element, whole, broken, element, long, tagHere, follow, parse, inner, outer}
 use Rattle.container.proofs.One.{element-is, good-fits}
@@ -28,7 +28,6 @@ use Rattle.container.proofs.Tags.{of-each, tag-is}
 use Rattle.container.proofs.Exact.{bytes-front, bytes-back}
 use Rattle.report.specs.Open.{Open, nothing, model, holder, card, policy, issuer, openOf}
 use Rattle.report.specs.Report.{kindName, cardPart, elementLines, elementCount, openPart, reportText}
-use Rattle.report.specs.Calls.{fitting}
 use Rattle.report.proofs.Valued.{value-fits, row-long}
 
 -- ---- what is read of n bytes: values that are allowed, or a fault at a place within them
@@ -116,33 +115,6 @@ kind-length kind =
     small : (b : Bool) (x y : List ℕ) → length x ≤ 9 → length y ≤ 9 → length (cond b x y) ≤ 9
     small true x y p q = p
     small false x y p q = q
-
-number-small : (f : Fault) → numberOf f < 100
-number-small f =
-    elim f [
-      | UnknownKind ↦ omega arith
-      | NoDate ↦ omega arith
-      | SmallRoom ↦ omega arith
-      | LargeContainer ↦ omega arith
-      | TornSheet ↦ omega arith
-      | NoElement ↦ omega arith
-      | LongNumber ↦ omega arith
-      | LongReport ↦ omega arith
-      | OuterTag ↦ omega arith
-      | LengthForm ↦ omega arith
-      | Overrun ↦ omega arith
-      | UnknownTag ↦ omega arith
-      | TagOrder ↦ omega arith
-      | MissingRow ↦ omega arith
-      | ElementLength ↦ omega arith
-      | BadFascn ↦ omega arith
-      | BadUuid ↦ omega arith
-      | BadDate ↦ omega arith
-      | BadFixed ↦ omega arith
-      | BadHeader ↦ omega arith
-      | BadMinutiae ↦ omega arith
-      | BadText ↦ omega arith
-    ]
 
 card-length : (kind size today verdict place : ℕ) → size < 10 ^ 5 → verdict < 10 ^ 2 → place < 10 ^ 5 → length (cardPart kind size today verdict place) ≤ 66
 unfolding cardPart
@@ -247,7 +219,3 @@ text-length kind today size (fault f p) h a =
 
 pub report-length : (kind today : ℕ) (c : List ℕ) → Bytes c → length c ≤ 32768 → length (reportText kind today (length c) (outer kind today c)) ≤ 512
 report-length kind today c b h = text-length kind today (length c) (outer kind today c) h (in-outer today kind c b)
-
-pub fitted : (kind today : ℕ) (c : List ℕ) → Bytes c → length c ≤ 32768
-    → fitting (reportText kind today (length c) (outer kind today c)) ≡ text (reportText kind today (length c) (outer kind today c))
-fitted kind today c b h = rw (le-ltb 512 _ (report-length kind today c b h))

@@ -1,27 +1,23 @@
 -- Demand 3, converse: two conforming containers with equal reports have the same kind, date, tags, lengths and open values. This shuts out "one
 -- printing a constant report". Assumes nothing.
---     converse     from the texts
---     told         from what two calls answer
---     told-rooms   from the rooms that two calls leave
-use Prim.Native.Nat.{ℕ, zero, suc, _+_, _-_, _^_, _≤_, _<_}
+use Prim.Native.Nat.{ℕ, zero, suc, _+_, _^_, _≤_, _<_}
 use mathlib.Core.Logic.{inl, inr}
 use mathlib.Core.Path.{_≡_, refl, sym, ap, ap₂, _∙_}
 use mathlib.Core.Bool.{false, cond, true≢false}
 use mathlib.Core.Option.{Option, none, some}
 use mathlib.Core.List.{List, [], _∷_, _++_}
 use native.Mathlib.Omega.{arith}
-use lib.Dec.{ltb, eqb}
+use lib.Dec.{eqb}
 use lib.ListN.{length, getD}
-use borrow.Author.Tests.{le-leb, eq-eqb}
+use borrow.Author.Tests.{eq-eqb}
 use Rattle.laws.specs.Bytes.{Bytes}
-use Rattle.laws.specs.Room.{zeros, filled}
 use Rattle.laws.proofs.Cases.{which}
 use Rattle.laws.proofs.Layouts.{by-entries}
 use Rattle.lengths.specs.Length.{lengthBytes}
 use Rattle.fascn.specs.Fascn.{IsFascn}
 use Rattle.fascn.proofs.Codec.{complete}
 use Rattle.dates.specs.Date.{textNumber}
-use Rattle.dates.proofs.Dates.{date-exact, small, eight-digits, text-number}
+use Rattle.dates.proofs.Dates.{small, eight-digits, text-number}
 use Rattle.cbeff.specs.Header.{fingers, face}
 use Rattle.cbeff.proofs.Exact.{fascn-inside}
 use Rattle.rules.specs.Rules.{Keeps}
@@ -30,22 +26,14 @@ use Rattle.texts.specs.Text.{ascii, hexTag}
 use Rattle.texts.proofs.Reading.{Reads, and-then, and, given, so, behind, read, Without, ended-reads}
 use Rattle.texts.proofs.Numbers.{number-reads, fixed-reads, hex-reads, tag-reads, raw-reads}
 use Rattle.kinds.specs.Tables.{Table, table, IsKind}
-use Rattle.verdicts.specs.Output.{Output, refusal, text, Leaves}
-use Rattle.verdicts.specs.declared.Done.{Done}
-use Rattle.verdicts.specs.declared.Fault.the-variants.{SmallRoom}
-use Rattle.verdicts.proofs.Apart.{never-zero}
 use Rattle.container.specs.Container.{Values, encode, container, Fits, Allowed, Conforms}
 use Rattle.container.specs.Reading.{values, has}
-use Rattle.container.proofs.Promise.{kind-exact}
 use Rattle.container.proofs.Rows.{Distinct}
 use Rattle.container.proofs.Tags.{Plain, short, double, Tags, tags, distinct}
 use Rattle.container.proofs.Exact.{bytes-back}
 use Rattle.report.specs.Open.{nothing, model, holder, card, policy, issuer, taggedValue, agencyOf, systemOf, openOf, shape}
 use Rattle.report.specs.Report.{kindName, number, digitsLine, cardPart, elementLine, elementLines, elementCount, elementsPart, openPart, reportText}
-use Rattle.report.specs.Calls.{reportOutput}
 use Rattle.report.proofs.Valued.{taggedRow, value-fits, row-long, value-bytes}
-use Rattle.report.proofs.Bound.{fitted}
-use Rattle.report.proofs.Same.{conforms-outer}
 
 -- ---- CARD
 
@@ -228,36 +216,3 @@ pub converse : (k t l u : ℕ) (vs ws : Values) (c d : List ℕ) → Bytes c →
     → reportText k t (length c) (values vs) ≡ reportText l u (length d) (values ws)
     → (k ≡ l) × (t ≡ u) × (shape vs ≡ shape ws) × (openOf k vs ≡ openOf k ws)
 converse k t l u vs ws c d b g h i e = read (whole-reads k l (length c) (length d) t u vs ws (side k t vs c b h) (side l u ws d g i)) e
-
--- ---- from what the calls answer, and from the rooms that they leave
-
--- a conforming container's report is its text, wherever it is not refused
-prints : (k t room : ℕ) (vs : Values) (c r : List ℕ) → Bytes c → Conforms k t vs c → reportOutput k t c room ≡ text r → reportText k t (length c) (values vs) ≡ r
-unfolding reportOutput
-prints k t room vs c r b h e =
-    let f = rw (kind-exact k .1 (h .kind-is), date-exact t .1 (h .date-is), le-leb _ _ (h .size-is), fitted k t c b (h .size-is), conforms-outer k t c b vs h) at e in
-    elim (which (ltb room 512)) [
-      | inl q ↦ let g : refusal SmallRoom 0 ≡ text r = rw q at f in let z : _≡_ {A = ℕ} 0 1 = cc in absurd (omega arith)
-      | inr q ↦ let g : text (reportText k t (length c) (values vs)) ≡ text r = rw q at f in cc
-    ]
-
-pub told : (k t l u : ℕ) (vs ws : Values) (c d : List ℕ) → Bytes c → Bytes d → Conforms k t vs c → Conforms l u ws d
-    → (r : List ℕ) (room₁ room₂ : ℕ) → reportOutput k t c room₁ ≡ text r → reportOutput l u d room₂ ≡ text r
-    → (k ≡ l) × (t ≡ u) × (shape vs ≡ shape ws) × (openOf k vs ≡ openOf k ws)
-told k t l u vs ws c d b g h i r m n p q = converse k t l u vs ws c d b g h i (prints k t m vs c r b h p ∙ sym (prints l u n ws d r g i q))
-
--- what a call that answered 0 left begins with its output
-answered : (o : Output) (d e : List ℕ) (r : Done) → Leaves o d e r → r .number ≡ 0 → (p z : List ℕ) × (o ≡ text p) × (e ≡ p ++ z)
-unfolding filled
-answered (refusal f p) d e r l z = absurd (never-zero f (sym (ap (λ (x : Done). x .number) (l .answer)) ∙ z))
-answered (text p) d e r l z = (p, zeros (length d - length p), refl, l .room)
-
--- the room alone says it: what stands behind the text is not looked at
-pub told-rooms : (k t l u : ℕ) (vs ws : Values) (c d : List ℕ) → Bytes c → Bytes d → Conforms k t vs c → Conforms l u ws d
-    → (d₁ d₂ e : List ℕ) (r₁ r₂ : Done) → Leaves (reportOutput k t c (length d₁)) d₁ e r₁ → Leaves (reportOutput l u d (length d₂)) d₂ e r₂
-    → r₁ .number ≡ 0 → r₂ .number ≡ 0 → (k ≡ l) × (t ≡ u) × (shape vs ≡ shape ws) × (openOf k vs ≡ openOf k ws)
-told-rooms k t l u vs ws c d b g h i d₁ d₂ e r₁ r₂ x y p q =
-    let (v, z, f, s) = answered (reportOutput k t c (length d₁)) d₁ e r₁ x p in
-    let (w, z′, f′, s′) = answered (reportOutput l u d (length d₂)) d₂ e r₂ y q in
-    let whole = whole-reads k l (length c) (length d) t u vs ws (side k t vs c b h) (side l u ws d g i) in
-    whole .cuts z z′ (rw (prints k t (length d₁) vs c v b h f, prints l u (length d₂) ws d w g i f′) (sym s ∙ s′)) .0

@@ -1,9 +1,10 @@
 -- No two faults have one number, and none has 0: so a verdict tells its outcome. Assumes nothing.
-use Prim.Native.Nat.{ℕ}
+use Prim.Native.Nat.{ℕ, _<_}
 use mathlib.Core.Path.{_≡_, refl, sym, ap, _∙_}
 use mathlib.Core.List.{List, [], _∷_}
 use native.Mathlib.Omega.{arith}
-use lib.ListN.{getD}
+use native.Mathlib.Decide.{decLt}
+use lib.ListN.{getD, List·getD-eq-default}
 use Rattle.verdicts.specs.declared.Fault.{Fault}
 use Rattle.verdicts.specs.declared.Fault.the-variants.{UnknownKind, NoDate, SmallRoom, LargeContainer, TornSheet, NoElement, LongNumber, LongReport, OuterTag, LengthForm, Overrun, UnknownTag, TagOrder, MissingRow, ElementLength, BadFascn, BadUuid, BadDate, BadFixed, BadHeader, BadMinutiae, BadText}
 use Rattle.verdicts.specs.declared.Outcome.{Outcome}
@@ -61,6 +62,18 @@ pub one-fault : (f g : Fault) → numberOf f ≡ numberOf g → f ≡ g
 one-fault f g e =
     let p : Broken f 0 ≡ Broken g 0 = sym (found f) ∙ ap (λ (n : ℕ). getD byNumber n Fine) e ∙ found g in
     cc
+
+-- every number has at most two digits
+pub number-small : (f : Fault) → numberOf f < 100
+unfolding byNumber
+number-small f =
+    elim (decLt (numberOf f) 24) [
+      | yes h ↦ omega arith
+      | no h ↦
+          let p : Fine ≡ Broken f 0 = sym (List·getD-eq-default byNumber Fine {n = numberOf f} (omega arith)) ∙ found f in
+          let z : _≡_ {A = ℕ} 0 1 = cc in
+          absurd (omega arith)
+    ]
 
 -- two outcomes with one verdict are the same
 pub one-outcome : (o p : Outcome) → verdictOf o ≡ verdictOf p → o ≡ p

@@ -21,7 +21,7 @@ returns c =
     let a = r .before .before .before .before .args in
     let o = reportOutput (a .kind) (a .today) (a .container .now) (length (a .room .now)) in
     let z : doneOf o .place ≡ 0 = report-cases (a .kind) (a .today) (a .container .now) (length (a .room .now)) (λ o. doneOf o .place ≡ 0) (λ f. refl) (λ t l s. refl) in
-    record { leaves = record { answer = placeless (doneOf o) z (r .report .ensures .leaves .answer); room = r .report .ensures .leaves .room } }
+    record { answers = record { leaves = record { answer = placeless (doneOf o) z (r .report .ensures .leaves .answer); room = r .report .ensures .leaves .room } } }
 
 pub prosianek-report-spec : {M : Type 1} → statement M
 prosianek-report-spec = tie.close (tie.spec (λ c κs. search needs) (λ c. search needs) returns)

@@ -1,16 +1,21 @@
--- `desk::main` is safe and ends. Assumes nothing.
+-- `desk::main` is safe and ends, and hands to `print` what may be printed. Assumes nothing.
 use mathlib.Core.Path.{sym}
 use native.Mathlib.Omega.{arith}
 use lib.Seq.{length-take-le}
-use Rattle.laws.proofs.Rooms.{same-room}
+use Rattle.laws.proofs.Rooms.{same-room, put-front}
+use Rattle.printout.proofs.Printed.{text-fits}
 use borrow.Author.Needs.{needs}
 use Rattle.desk.proofs.main.Statement.{statement}
 use Rattle.desk.proofs.main.Tie as tie
 
-slice-aggregate-write-all : tie.Need-slice-aggregate-write-all
-slice-aggregate-write-all c =
-    let w = c .before .before .answer .ensures in
+slice-aggregate-print-2 : tie.Need-slice-aggregate-print-2
+slice-aggregate-print-2 c =
+    let w = c .before .before .before .answer .ensures in
     sym (length-take-le _ _ (omega (arith, w .inside, same-room w)))
+
+print-requires : tie.Need-print-requires
+print-requires c κs =
+    record { buffer-is = search needs; text-is = put-front (text-fits _ _) (c .before .before .before .answer .ensures) }
 
 pub main-spec : {M : Type 1} → statement M
 main-spec =
@@ -23,6 +28,7 @@ main-spec =
     (λ c. search needs)
     (λ c κs. search needs)
     (λ c. search needs)
-    slice-aggregate-write-all
-    (λ c κs. search needs)
+    (λ c. search needs)
+    slice-aggregate-print-2
+    print-requires
     (λ c. search needs))

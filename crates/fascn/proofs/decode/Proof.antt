@@ -7,7 +7,8 @@ use borrow.Author.Needs.{needs}
 use borrow.Author.Tests.{not-true, not-false}
 use Rattle.laws.proofs.Bases.{below-of}
 use Rattle.laws.proofs.Turns.{rest}
-use Rattle.fascn.specs.Reading.{valueOf, valuesOf, framed, fields, success}
+use Rattle.fascn.specs.Reading.{valueOf, valuesOf, framed, fields}
+use Rattle.fascn.specs.Calls.{success}
 use Rattle.fascn.proofs.Packing.{values-groups}
 use Rattle.fascn.proofs.Codec.{other-length, not-framed, well-framed}
 use Rattle.fascn.proofs.decode.Statement.{statement}

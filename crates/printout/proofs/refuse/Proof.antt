@@ -1,7 +1,7 @@
--- `desk::refuse` meets its contract. Assumes nothing.
+-- `printout::refuse` meets its contract. Assumes nothing.
 use borrow.Author.Needs.{needs}
-use Rattle.desk.proofs.refuse.Statement.{statement}
-use Rattle.desk.proofs.refuse.Tie as tie
+use Rattle.printout.proofs.refuse.Statement.{statement}
+use Rattle.printout.proofs.refuse.Tie as tie
 
 returns : tie.Need-returns
 returns c =

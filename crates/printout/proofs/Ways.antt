@@ -16,7 +16,7 @@ use Rattle.verdicts.specs.declared.Done.{Done}
 use Rattle.verdicts.proofs.Apart.{never-zero}
 use Rattle.report.specs.Calls.{reportOutput}
 use Rattle.report.proofs.Answers.{report-cases}
-use Rattle.desk.specs.Desk.{kindDigit, deskOutput, refusedText, printed, deskText}
+use Rattle.printout.specs.Printout.{kindDigit, deskOutput, refusedText, shown, deskText}
 
 -- ---- the kind's digit
 
@@ -53,18 +53,18 @@ module _ (s : List ℕ) (room : ℕ) where
         let n : length (take 8 (drop 1 s)) ≡ 8 → ⊥ = λ e. omega (arith, take-short 8 (drop 1 s), length-drop 1 s) in
         no-date (sym (text-long (take 8 (drop 1 s)) n))
 
-    pub dated-text : {today : ℕ} → dateOf (take 8 (drop 1 s)) ≡ Is today → printed (reportOutput (kindDigit s) today (drop 9 s) room) ≡ deskText s room
+    pub dated-text : {today : ℕ} → dateOf (take 8 (drop 1 s)) ≡ Is today → shown (reportOutput (kindDigit s) today (drop 9 s) room) ≡ deskText s room
     unfolding deskText deskOutput
     dated-text d = rw (k, d)
 
 -- ---- after the report call
 
 -- what the report call leaves is what is printed; or its number is printed, into the zeros that it left
-shows : (o : Output) (d : List ℕ) {e : List ℕ} {r : Done} → ((t : List ℕ) → o ≡ text t → length t ≤ length d) → Leaves o d e r → r .number ≡ 0 → Put (printed o) (zeros (length d)) e (r .length)
+shows : (o : Output) (d : List ℕ) {e : List ℕ} {r : Done} → ((t : List ℕ) → o ≡ text t → length t ≤ length d) → Leaves o d e r → r .number ≡ 0 → Put (shown o) (zeros (length d)) e (r .length)
 shows (refusal f p) d fit l z = absurd (never-zero f (sym (ap (λ (x : Done). x .number) (l .answer)) ∙ z))
 shows (text t) d fit l z = rw (l .room, ap (λ (x : Done). x .length) (l .answer)) (filled-put t (length d) (fit t refl))
 
-tells : (o : Output) (d : List ℕ) {e : List ℕ} {r : Done} → Leaves o d e r → (r .number ≡ 0 → ⊥) → (printed o ≡ refusedText (r .number)) × (e ≡ zeros (length d))
+tells : (o : Output) (d : List ℕ) {e : List ℕ} {r : Done} → Leaves o d e r → (r .number ≡ 0 → ⊥) → (shown o ≡ refusedText (r .number)) × (e ≡ zeros (length d))
 tells (refusal f p) d l z = (ap refusedText (sym (ap (λ (x : Done). x .number) (l .answer))), l .room ∙ sym (filled-none (length d)))
 tells (text t) d l z = absurd (z (ap (λ (x : Done). x .number) (l .answer)))
 
@@ -76,7 +76,7 @@ fits kind today c room t =
 
 module _ (s d : List ℕ) {kind today : ℕ} {e : List ℕ} {r : Done} (k : isKind (kindDigit s) ≡ true) (t : dateOf (take 8 (drop 1 s)) ≡ Is today) (q : kind ≡ kindDigit s)
     (l : Leaves (reportOutput kind today (drop 9 s) (length d)) d e r) where
-  says : printed (reportOutput kind today (drop 9 s) (length d)) ≡ deskText s (length d)
+  says : shown (reportOutput kind today (drop 9 s) (length d)) ≡ deskText s (length d)
   says = rw q (dated-text s (length d) k t)
 
   pub reported-refused : {e′ : List ℕ} {n : ℕ} → (r .number ≡ 0 → ⊥) → Put (refusedText (r .number)) e e′ n → Put (deskText s (length d)) (zeros (length d)) e′ n

@@ -1,4 +1,4 @@
--- `desk::answer` meets its contract: a law for each way out. Assumes nothing.
+-- `printout::answer` meets its contract: a law for each way out. Assumes nothing.
 use mathlib.Core.Path.{_≡_, sym, ap, _∙_}
 use mathlib.Core.Bool.{true}
 use lib.ListN.{length, take, drop}
@@ -10,10 +10,10 @@ use Rattle.laws.proofs.Rooms.{same-text}
 use Rattle.kinds.specs.Tables.{isKind}
 use Rattle.dates.specs.Date.{dateOf}
 use Rattle.dates.specs.declared.Date.the-variants.{Is}
-use Rattle.desk.specs.Desk.{kindDigit}
-use Rattle.desk.proofs.Ways.{bad-kind, no-date, cut-date, reported-refused, reported-shown}
-use Rattle.desk.proofs.answer.Statement.{statement}
-use Rattle.desk.proofs.answer.Tie as tie
+use Rattle.printout.specs.Printout.{kindDigit}
+use Rattle.printout.proofs.Ways.{bad-kind, no-date, cut-date, reported-refused, reported-shown}
+use Rattle.printout.proofs.answer.Statement.{statement}
+use Rattle.printout.proofs.answer.Tie as tie
 
 -- the kind is one of the seven
 kind-is : (e : tie.Else1) → isKind (kindDigit (now (e .before .before .before .before .before .args .input))) ≡ true

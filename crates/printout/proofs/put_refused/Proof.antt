@@ -1,9 +1,9 @@
--- `desk::put_refused` meets its contract: its pieces stand one after the other. Assumes nothing.
+-- `printout::put_refused` meets its contract: its pieces stand one after the other. Assumes nothing.
 use borrow.Author.Needs.{needs}
 use Rattle.laws.proofs.Rooms.{then}
-use Rattle.desk.specs.Desk.{refusedText}
-use Rattle.desk.proofs.put_refused.Statement.{statement}
-use Rattle.desk.proofs.put_refused.Tie as tie
+use Rattle.printout.specs.Printout.{refusedText}
+use Rattle.printout.proofs.put_refused.Statement.{statement}
+use Rattle.printout.proofs.put_refused.Tie as tie
 
 returns : tie.Need-returns
 unfolding refusedText

@@ -1,8 +1,8 @@
--- `desk::kind_digit` meets its contract. Assumes nothing.
+-- `printout::kind_digit` meets its contract. Assumes nothing.
 use borrow.Author.Needs.{needs}
-use Rattle.desk.proofs.Ways.{no-digit, low-digit, a-digit}
-use Rattle.desk.proofs.kind_digit.Statement.{statement}
-use Rattle.desk.proofs.kind_digit.Tie as tie
+use Rattle.printout.proofs.Ways.{no-digit, low-digit, a-digit}
+use Rattle.printout.proofs.kind_digit.Statement.{statement}
+use Rattle.printout.proofs.kind_digit.Tie as tie
 
 returns-2 : tie.Need-returns-2
 returns-2 c = let e = c .before .before .before in low-digit (e .before .before .args .input .now) (e .if1 .left) (c .before .wide .ensures .0) (c .if2 .taken)

@@ -1,0 +1,67 @@
+-- 01: "The desk program reads standard input: one digit for the kind, eight for today, then a container of up to 32,768 bytes; it prints the report, or
+-- `refused N`. No bytes at all, or a first byte that is not 1 to 7, is refusal 1; a date cut short or not all digits is 2."
+use Prim.Native.Nat.{ℕ, _+_, _-_}
+use mathlib.Core.Path.{_≡_}
+use mathlib.Core.Bool.{cond}
+use mathlib.Core.List.{List, [], _∷_, _++_}
+use lib.ListN.{length, take, drop}
+use Rattle.texts.specs.Text.{ascii, digit, decimal}
+use Rattle.dates.specs.Date.{Reads, dateOf}
+use Rattle.dates.specs.declared.Date.{Date}
+use Rattle.dates.specs.declared.Date.the-variants.{Is, Not}
+use Rattle.kinds.specs.Tables.{isKind}
+use Rattle.verdicts.specs.Verdicts.{numberOf}
+use Rattle.verdicts.specs.Output.{Output, refusal, text}
+use Rattle.verdicts.specs.declared.Fault.the-variants.{UnknownKind, NoDate}
+use Rattle.container.specs.Container.{largest}
+use Rattle.report.specs.Calls.{reportOutput}
+
+-- ---- what is printed for an input that was read, with a room of so many bytes for the report
+
+-- the first byte as a digit; 0, which is no kind, where there is none
+abbrev pub kindDigit : List ℕ → ℕ
+kindDigit [] = 0
+kindDigit (b ∷ s) = b - 48
+
+abbrev pub dated : ℕ → Date → List ℕ → ℕ → Output
+dated kind Not c room = refusal NoDate 0
+dated kind (Is today) c room = reportOutput kind today c room
+
+-- "A bad kind wins over everything, a bad date over a container that is too long"
+unfoldable pub deskOutput : List ℕ → ℕ → Output
+deskOutput s room = cond (isKind (kindDigit s)) (dated (kindDigit s) (dateOf (take 8 (drop 1 s))) (drop 9 s) room) (refusal UnknownKind 0)
+
+unfoldable pub refusedText : ℕ → List ℕ
+refusedText n = ascii "refused " ++ decimal n ++ 10 ∷ []
+
+abbrev pub shown : Output → List ℕ
+shown (refusal f p) = refusedText (numberOf f)
+shown (text t) = t
+
+unfoldable pub deskText : List ℕ → ℕ → List ℕ
+deskText s room = shown (deskOutput s room)
+
+-- ---- the program: "the desk program's input buffer is one zero-filled array of that many bytes and ten more; the report's is [0; 512]"
+
+abbrev pub inputSize : ℕ
+inputSize = largest + 10
+
+abbrev pub reportRoom : ℕ
+reportRoom = 512
+
+-- these bytes may go to standard output, where the first `got` bytes of the input buffer were read: what is printed for them, and nothing else
+pub record Prints (buffer : List ℕ) (got : ℕ) (bytes : List ℕ) : Type 0 where
+  pub buffer-is : length buffer ≡ inputSize
+  pub text-is : bytes ≡ deskText (take got buffer) reportRoom
+
+-- ---- the program seen from outside
+
+-- what it prints where this stands on standard input, of which it reads no further than its buffer
+abbrev pub printed : List ℕ → List ℕ
+printed s = deskText (take inputSize s) reportRoom
+
+-- an input in 01's words: "one digit for the kind, eight for today, then a container"
+pub record Asks (s : List ℕ) (kind today : ℕ) (c : List ℕ) : Type 0 where
+  pub date : List ℕ
+  pub date-is : Reads date today
+  pub written : s ≡ digit kind ∷ (date ++ c)

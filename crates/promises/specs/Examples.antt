@@ -1,0 +1,158 @@
+-- The examples of document 01, P1 to P14, and further rows, as one table: what each row says, over the rules themselves, and the table.
+use Prim.Native.Nat.{ℕ}
+use mathlib.Core.Path.{_≡_}
+use mathlib.Core.Option.{none, some}
+use mathlib.Core.List.{List, [], _∷_, _++_}
+use lib.ListN.{replicate}
+use Rattle.fascn.specs.Fascn.{Conforms as IsFascnOf, IsFascn}
+use Rattle.fascn.specs.declared.Numbers.{Numbers}
+use Rattle.lengths.specs.Length.{Spells}
+use Rattle.dates.specs.Date.{IsDate, InWindow}
+use Rattle.verdicts.specs.Verdicts.{numberOf}
+use Rattle.verdicts.specs.declared.Fault.{Fault}
+use Rattle.rules.specs.Rules.{application}
+use Rattle.container.specs.Container.{Values, container, Conforms}
+use Rattle.container.specs.InOrder.{Named}
+
+-- ---- what a row of the table says
+
+pub data Example : Type 0 where
+  fascn-of : List ℕ → Numbers → Example
+  no-fascn : List ℕ → Example
+  spells : List ℕ → ℕ → Example
+  no-length : List ℕ → Example
+  date : ℕ → Example
+  no-date : ℕ → Example
+  kept : ℕ → ℕ → Example
+  late : ℕ → ℕ → Example
+  conforms : ℕ → List ℕ → Example
+  breaks : ℕ → List ℕ → ℕ → ℕ → Example
+
+-- "With today 20260301"
+abbrev pub today : ℕ
+today = 20260301
+
+abbrev pub Holds : Example → Type 0
+Holds (fascn-of s n) = IsFascnOf s n  -- these bytes are the FASC-N of these numbers
+Holds (no-fascn s) = IsFascn s → ⊥  -- they are that of none
+Holds (spells s n) = Spells s n  -- these bytes are the length
+Holds (no-length s) = (p r : List ℕ) (n : ℕ) → s ≡ p ++ r → Spells p n → ⊥  -- no bytes at their front are a length
+Holds (date n) = IsDate n  -- this number is a date
+Holds (no-date n) = IsDate n → ⊥
+Holds (kept t e) = InWindow t e  -- under the date t the expiry e is kept
+Holds (late t e) = InWindow t e → ⊥
+Holds (conforms kind c) = (vs : Values) × Conforms kind today vs c  -- there are values that are allowed and written as these bytes
+Holds (breaks kind c number place) = (f : Fault) × (number ≡ numberOf f) × Named kind today c f place  -- the first broken rule has this number and place
+
+abbrev pub All : List Example → Type 0
+All [] = Unit {0}
+All (e ∷ es) = Holds e × All es
+
+-- ---- the bytes
+
+abbrev p1Numbers : Numbers
+p1Numbers = record { agency = 1234; system = 1; credential = 5; series = 1; issue = 1; person = 7; category = 1; organisation = 1234; association = 1 }
+
+-- the FASC-N of P1, its last byte given
+abbrev p1 : ℕ → List ℕ
+p1 last =
+    0xD4 ∷ 0x11 ∷ 0x92 ∷ 0x58 ∷ 0x21 ∷ 0x0C ∷ 0x2C ∷ 0x10 ∷ 0x84 ∷ 0x21 ∷ 0xAD ∷ 0xA1 ∷ 0x68 ∷ 0x58 ∷ 0x21 ∷ 0x08 ∷ 0x42 ∷ 0x10 ∷ 0x84 ∷ 0x3C
+    ∷ 0x84 ∷ 0x11 ∷ 0x92 ∷ 0x43 ∷ last ∷ []
+
+-- P13, its policy's first byte given
+abbrev discovery : ℕ → List ℕ
+discovery first = 0x7E ∷ 0x12 ∷ 0x4F ∷ 0x0B ∷ (application ++ (0x5F ∷ 0x2F ∷ 0x02 ∷ first ∷ 0x00 ∷ []))
+
+-- a UUID of version 4; the date 20300131 as text
+abbrev uuid : List ℕ
+uuid = replicate 6 1 ++ (0x40 ∷ 0 ∷ 0x80 ∷ replicate 7 1)
+
+abbrev expiry : List ℕ
+expiry = 0x32 ∷ 0x30 ∷ 0x33 ∷ 0x30 ∷ 0x30 ∷ 0x31 ∷ 0x33 ∷ 0x31 ∷ []
+
+-- case R; and a CHUID with each optional element
+abbrev chuid : List ℕ
+chuid = container 2 (none ∷ some (p1 0xEB) ∷ none ∷ none ∷ some uuid ∷ some expiry ∷ none ∷ some [] ∷ some [] ∷ [])
+
+abbrev fullChuid : List ℕ
+fullChuid =
+    container 2
+    (some (1 ∷ 2 ∷ []) ∷ some (p1 0xEB) ∷ some (replicate 4 3) ∷ some (replicate 9 4) ∷ some uuid ∷ some expiry ∷ some uuid ∷ some (replicate 130 7) ∷ some [] ∷ [])
+
+abbrev ccc : List ℕ
+ccc =
+    container 1
+    (some [] ∷ some [] ∷ some [] ∷ some [] ∷ some [] ∷ some (0x10 ∷ []) ∷ some [] ∷ some [] ∷ some [] ∷ some [] ∷ some [] ∷ some [] ∷ none ∷ none ∷ some [] ∷ [])
+
+abbrev printed : List ℕ
+printed = container 4 (some [] ∷ some [] ∷ some expiry ∷ some [] ∷ some (replicate 15 0x20) ∷ none ∷ none ∷ some [] ∷ [])
+
+abbrev security : List ℕ
+security = container 5 (some [] ∷ some [] ∷ some [] ∷ [])
+
+-- a CBEFF header: the data length, the format, the type, the data type and the quality given
+abbrev moment : List ℕ
+moment = 20 ∷ 26 ∷ 1 ∷ 1 ∷ 0 ∷ 0 ∷ 0 ∷ 0x5A ∷ []
+
+abbrev cbeffHead : ℕ → ℕ → ℕ → ℕ → ℕ → List ℕ
+cbeffHead d format sort type quality =
+    0x03 ∷ 0x0D ∷ 0 ∷ 0 ∷ 0 ∷ d ∷ 0 ∷ 1 ∷ 0x00 ∷ 0x1B ∷ format ∷ 0x01
+    ∷ (moment ++ (moment ++ (moment ++ (0 ∷ 0 ∷ sort ∷ type ∷ quality ∷ (replicate 18 0 ++ (p1 0xEB ++ (0 ∷ 0 ∷ 0 ∷ 0 ∷ [])))))))
+
+-- a minutiae record without points
+abbrev record38 : List ℕ
+record38 =
+    0x46 ∷ 0x4D ∷ 0x52 ∷ 0x00 ∷ 0x20 ∷ 0x32 ∷ 0x30 ∷ 0x30 ∷ 0 ∷ 38
+    ∷ (replicate 10 9 ++ (0 ∷ 197 ∷ 0 ∷ 197 ∷ 2 ∷ 0 ∷ 1 ∷ 0 ∷ 60 ∷ 0 ∷ 0 ∷ 0 ∷ 6 ∷ 2 ∷ 254 ∷ 0 ∷ 0 ∷ 0 ∷ []))
+
+abbrev fingers : ℕ → List ℕ
+fingers quality = container 6 (some (cbeffHead 38 0x02 0x08 0x80 quality ++ (record38 ++ (0x30 ∷ []))) ∷ some [] ∷ [])
+
+abbrev face : ℕ → List ℕ
+face quality = container 7 (some (cbeffHead 1 0x05 0x02 0x20 quality ++ (0xFF ∷ 0x30 ∷ [])) ∷ some [] ∷ [])
+
+-- ---- the table
+
+unfoldable pub examples : List Example
+examples =
+    -- P1, P2
+    fascn-of (p1 0xEB) p1Numbers
+    ∷ no-fascn (p1 0xEA)
+    -- P3 to P8
+    ∷ spells (0x7F ∷ []) 127
+    ∷ no-length (0x81 ∷ 0x7F ∷ [])
+    ∷ spells (0x81 ∷ 0x80 ∷ []) 128
+    ∷ no-length (0x82 ∷ 0x00 ∷ 0xFF ∷ [])
+    ∷ spells (0x82 ∷ 0x01 ∷ 0x00 ∷ []) 256
+    ∷ no-length (0x80 ∷ [])
+    -- P9 to P12
+    ∷ date 20000229
+    ∷ no-date 21000229
+    ∷ kept 20260301 20320301
+    ∷ late 20260301 20320302
+    -- P13, P14
+    ∷ conforms 3 (discovery 0x40)
+    ∷ breaks 3 (discovery 0x60) 20 15
+    -- an empty container, and one without elements
+    ∷ breaks 2 [] 10 0
+    ∷ breaks 2 (0x53 ∷ 0x00 ∷ []) 15 2
+    -- one conforming container of every kind; a CHUID with each optional element
+    ∷ conforms 1 ccc
+    ∷ conforms 2 chuid
+    ∷ conforms 2 fullChuid
+    ∷ conforms 4 printed
+    ∷ conforms 5 security
+    ∷ conforms 6 (fingers 0x64)
+    ∷ conforms 7 (face 0x64)
+    -- the quality is a signed byte; -1 is known in FINGERS and not in FACE
+    ∷ breaks 6 (fingers 0xFD) 21 3
+    ∷ conforms 6 (fingers 0xFE)
+    ∷ conforms 6 (fingers 0xFF)
+    ∷ breaks 6 (fingers 0x65) 21 3
+    ∷ conforms 7 (face 0xFE)
+    ∷ breaks 7 (face 0xFF) 21 2
+    -- bytes after the outer end; a byte 5F without 2F; FE missing at the end
+    ∷ breaks 5 (security ++ (0 ∷ [])) 12 0
+    ∷ breaks 3 (0x7E ∷ 0x02 ∷ 0x5F ∷ 0x00 ∷ []) 13 2
+    ∷ breaks 5 (0x53 ∷ 0x04 ∷ 0xBA ∷ 0x00 ∷ 0xBB ∷ 0x00 ∷ []) 15 6
+    ∷ []
