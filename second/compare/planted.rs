@@ -59,6 +59,15 @@ fn faults_before(stretch: &Stretch) -> Vec<Planted> {
     }
 }
 
+/// Whether every other stretch stands between guards of at least 64 bytes.
+fn guarded(stretches: &[Stretch]) -> bool {
+    let mut guards = stretches.iter().step_by(2);
+    let mut others = stretches.iter().skip(1).step_by(2);
+    stretches.len() % 2 == 1
+        && guards.all(|stretch| stretch.sort == Sort::Guard && stretch.range.len() >= 64)
+        && others.all(|stretch| stretch.sort != Sort::Guard)
+}
+
 /// Made calls, so many of each sort.
 fn calls(seed: u64) -> Vec<Record> {
     let mut inputs = Inputs::new(seed);
@@ -88,6 +97,7 @@ impl Trying {
     fn plant(&mut self, record: &Record) -> Result<(), Wrong> {
         let expected = record.answer();
         self.trial.run(record, &expected, &Fault::None)?;
+        assert!(guarded(self.trial.stretches()), "a guard is missing: {}", call_text(record));
         for stretch in self.trial.stretches().to_vec().iter().filter(|stretch| !stretch.range.is_empty()) {
             for (how, fault, wrong) in [faults_after(stretch, &mut self.rng), faults_before(stretch)].concat() {
                 *self.planted.entry((how, stretch.name)).or_default() += 1;
