@@ -1,6 +1,6 @@
 //! A deterministic generator of conforming and damaged inputs.
 
-use crate::batch::{Call, Record};
+use crate::batch::{Call, Record, BYTES_MAX, ROOM_MAX};
 use crate::card::{self, Rule};
 use crate::values::{self, fascn_encode, fascn_pack, fascn_values, is_date};
 use crate::{CONTAINER_MAX, REPORT_MAX};
@@ -1279,7 +1279,7 @@ fn any_room(rng: &mut Rng, needed: usize) -> usize {
         37 => rng.pick(&[511, 512, 513, 600]),
         _ => needed + 64,
     };
-    room.min(70_000)
+    room.min(ROOM_MAX)
 }
 
 fn report_room(rng: &mut Rng) -> usize {
@@ -1389,7 +1389,7 @@ fn any_container(rng: &mut Rng, kind: u64) -> (Card, Vec<u8>) {
             damage_bytes(rng, &mut bytes);
         }
     }
-    bytes.truncate(66_000);
+    bytes.truncate(BYTES_MAX);
     (card, bytes)
 }
 
@@ -1469,8 +1469,8 @@ fn big_record(rng: &mut Rng) -> Record {
             let at = rng.size(0, 200);
             bytes[at] ^= 1 << rng.below(8);
         }
-        bytes.truncate(66_000);
-        return Record { call, kind, today: card.today, tag: 0, room: room.min(70_000), fill: any_fill(rng), bytes };
+        bytes.truncate(BYTES_MAX);
+        return Record { call, kind, today: card.today, tag: 0, room: room.min(ROOM_MAX), fill: any_fill(rng), bytes };
     }
     let mut bytes = card.container();
     if rng.one_in(3) {

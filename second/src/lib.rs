@@ -6,6 +6,7 @@
 pub mod batch;
 pub mod card;
 pub mod generate;
+pub mod named;
 pub mod report;
 pub mod samples;
 pub mod values;

@@ -2,8 +2,18 @@
 
 use second::card::length_at;
 use second::generate::{example_chuid, small, EXAMPLE_DAY, EXAMPLE_DISCOVERY, EXAMPLE_FASCN};
+use second::named::{self, CASE_R};
 use second::values::{is_expiry, text_date};
 use second::{check, desk, fascn_decode, fascn_encode, read, report, view, write};
+
+#[test]
+fn named_calls() {
+    for (name, cases) in named::all() {
+        for (record, answer) in cases {
+            assert_eq!(record.answer(), answer, "{}: {:?}", name, record);
+        }
+    }
+}
 
 #[test]
 fn p1_p2_fascn() {
@@ -105,8 +115,6 @@ fn p13_p14_discovery() {
     // Only the first tag of another kind is looked at.
     assert_eq!(check(2, EXAMPLE_DAY, &[0x53, 0x05, 0x5F, 0x2F, 0x02, 0x40, 0x00]), (13, 2));
 }
-
-const CASE_R: &str = "CARD 4\nkind CHUID\nbytes 61\ntoday 20260301\nverdict 0 0\nELEMENTS 5\n30 25\n34 16\n35 8\n3E 0\nFE 0\nOPEN 3\nagency 1234\nsystem 0001\nexpires 20300131\n";
 
 #[test]
 fn case_r() {

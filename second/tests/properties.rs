@@ -1,5 +1,6 @@
 //! Properties over generated inputs.
 
+use second::batch::Call;
 use second::card;
 use second::generate::{conforming, conforming_of_size, personal_twin, small, Inputs, Rng, EXAMPLE_DAY};
 use second::{check, read, report, view, write};
@@ -155,7 +156,7 @@ fn calls_agree() {
     for _ in 0..60_000 {
         let record = inputs.record();
         let (kind, today, bytes) = (record.kind, record.today, &record.bytes[..]);
-        if record.call as u8 >= 6 {
+        if matches!(record.call, Call::FascnDecode | Call::FascnEncode) {
             continue;
         }
         let (number, place) = check(kind, today, bytes);

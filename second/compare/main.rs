@@ -1,0 +1,108 @@
+//! The proved library and the independent second program in one process: each call is made on both sides, and everything
+//! that can be seen of it afterwards is compared. tests/second-program builds and runs this.
+//!
+//!     compare calls SEED COUNT    the named calls, COUNT made calls, and the sweep
+//!     compare planted SEED        tries the comparison itself, with planted faults
+
+use second::batch::{Answer, Record, Tally};
+use second::generate::{sweep, Inputs};
+use second::named;
+use std::process::exit;
+
+mod planted;
+#[path = "../../examples/rust/prosianek.rs"]
+mod prosianek;
+mod trial;
+
+use trial::{call_text, Fault, Trial};
+
+/// So many differences are shown.
+const SHOWN: u64 = 5;
+
+struct Comparison {
+    trial: Trial,
+    tally: Tally,
+    calls: u64,
+    differences: u64,
+}
+
+impl Comparison {
+    fn differs(&mut self, text: impl FnOnce(&Trial) -> String) {
+        self.differences += 1;
+        if self.differences <= SHOWN {
+            println!("{}", text(&self.trial));
+        }
+    }
+
+    fn compare(&mut self, record: &Record, expected: &Answer) {
+        self.calls += 1;
+        match self.trial.run(record, expected, &Fault::None) {
+            Ok(()) => self.tally.count(record.call, expected.number),
+            Err(wrong) => self.differs(|trial| trial.tell(record, wrong)),
+        }
+    }
+
+    /// Both programs have to answer as it is written out.
+    fn compare_named(&mut self) {
+        for (name, cases) in named::all() {
+            for (record, expected) in cases {
+                let answer = record.answer();
+                if answer != expected {
+                    self.differs(|_| {
+                        let call = call_text(&record);
+                        format!(
+                            "the second program: {}\n  {}\n  expected {:?}\n  got      {:?}",
+                            name, call, expected, answer
+                        )
+                    });
+                }
+                self.compare(&record, &expected);
+            }
+        }
+    }
+}
+
+/// Compares the calls, says how many, and gives whether there was no difference and every number was answered.
+fn all_same(seed: u64, count: u64) -> bool {
+    let mut comparison = Comparison { trial: Trial::new(!seed), tally: Tally::default(), calls: 0, differences: 0 };
+    comparison.compare_named();
+    let mut inputs = Inputs::new(seed);
+    for _ in 0..count {
+        let record = inputs.record();
+        comparison.compare(&record, &record.answer());
+    }
+    sweep(|record| comparison.compare(record, &record.answer()));
+
+    let never = comparison.tally.never();
+    print!("how often each number was answered, by call:\n{}", comparison.tally);
+    for number in &never {
+        println!("number {} never occurs", number);
+    }
+    let outcome = match comparison.differences {
+        0 => "every answer, every byte of every room and all around it is as expected".to_string(),
+        differences => format!("{} differ", differences),
+    };
+    println!("{} calls, seed {}: {}", comparison.calls, seed, outcome);
+    comparison.differences == 0 && never.is_empty()
+}
+
+fn number(text: &str) -> u64 {
+    text.parse().unwrap_or_else(|_| {
+        eprintln!("compare: not a number: {}", text);
+        exit(2)
+    })
+}
+
+fn main() {
+    let arguments: Vec<String> = std::env::args().skip(1).collect();
+    let arguments: Vec<&str> = arguments.iter().map(String::as_str).collect();
+    let good = match arguments[..] {
+        ["calls", seed, count] => all_same(number(seed), number(count)),
+        ["planted", seed] => planted::all_seen(number(seed)),
+        _ => {
+            eprintln!("usage: compare calls SEED COUNT | planted SEED");
+            exit(2)
+        }
+    };
+    exit(i32::from(!good));
+}

@@ -1,0 +1,345 @@
+//! One call of the proved library in a memory of known contents, beside the answer that is expected.
+//!
+//! All that a call gets lies in one memory, between guards. An image says what has to be there afterwards: the same
+//! guards, the same input, and in what is lent the expected answer. Before the call no lent byte is the one that is
+//! expected there, and none is zero, nor is one in the guards: so a byte that is not written shows, and one too many.
+
+use crate::prosianek::*;
+use second::batch::{Answer, Call, Record, BYTES_MAX, ROOM_MAX};
+use second::generate::Rng;
+use std::ops::Range;
+
+/// A guard has this many bytes, or a few more.
+const GUARD: usize = 64;
+
+/// Enough for the largest input and the largest room, with ten guards and numbers.
+const MEMORY: usize = BYTES_MAX + ROOM_MAX + 20 * GUARD;
+
+/// A number is lent by an address that is a multiple of eight.
+#[repr(align(8))]
+struct Memory([u8; MEMORY]);
+
+#[derive(Clone, Copy, PartialEq, Eq)]
+pub enum Sort {
+    /// Nobody writes here.
+    Guard,
+    /// What the call reads, and leaves as it is.
+    Input,
+    /// Every byte is written, with the answer.
+    Lent,
+}
+
+/// A part of the memory. The stretches lie side by side, and are all of the memory that is in use.
+#[derive(Clone)]
+pub struct Stretch {
+    pub name: &'static str,
+    pub sort: Sort,
+    pub range: Range<usize>,
+}
+
+/// What is wrong, and the first byte of the memory where it is.
+#[derive(Clone, Copy, PartialEq, Eq)]
+pub enum Wrong {
+    /// Before the call the memory is not filled as it should be: a fault of the comparison.
+    Filling(usize),
+    /// After the call the memory is not like the image.
+    Answer(usize),
+}
+
+/// A fault that is planted in order to be seen.
+#[derive(Clone)]
+pub enum Fault {
+    None,
+    /// Before the call these bytes are those that are expected after it.
+    Foreseen(Range<usize>),
+    /// Before the call these bytes are zeros.
+    Zeros(Range<usize>),
+    /// Zeros are a guard.
+    NoGuard(Range<usize>),
+    /// After the call this byte is another one.
+    Changed(usize),
+    /// This byte of the part that a view names is another one than the expected.
+    OtherPart(usize),
+}
+
+/// Numbers as they stand in memory.
+fn native(numbers: &[u64]) -> Vec<u8> {
+    numbers.iter().flat_map(|number| number.to_ne_bytes()).collect()
+}
+
+/// The numbers that stand in memory.
+fn numbers(bytes: &[u8]) -> Vec<u64> {
+    let number = |eight: &[u8]| u64::from_ne_bytes(eight.try_into().expect("a chunk of eight"));
+    bytes.chunks_exact(8).map(number).collect()
+}
+
+/// What a call is lent, with what is expected there afterwards.
+fn lent(call: Call, expected: &Answer) -> Vec<(&'static str, Vec<u8>)> {
+    let room = || ("room", expected.room.clone());
+    let place = || ("place", native(&[expected.place]));
+    let length = || ("length", native(&[expected.length]));
+    match call {
+        Call::Check => vec![place()],
+        Call::Read | Call::Write => vec![room(), place(), length()],
+        Call::View => vec![place(), ("offset", native(&[expected.offset])), length()],
+        Call::Report => vec![room(), length()],
+        Call::FascnDecode => vec![("numbers", native(&expected.numbers))],
+        Call::FascnEncode => vec![room()],
+    }
+}
+
+/// A byte that is neither this one nor zero.
+fn other(rng: &mut Rng, than: u8) -> u8 {
+    loop {
+        let byte = rng.byte();
+        if byte != than && byte != 0 {
+            return byte;
+        }
+    }
+}
+
+pub struct Trial {
+    rng: Rng,
+    memory: Box<Memory>,
+    image: Vec<u8>,
+    stretches: Vec<Stretch>,
+}
+
+impl Trial {
+    pub fn new(seed: u64) -> Trial {
+        Trial { rng: Rng::new(seed), memory: Box::new(Memory([0; MEMORY])), image: Vec::new(), stretches: Vec::new() }
+    }
+
+    /// Makes the call and compares everything. Without a planted fault nothing should be wrong.
+    pub fn run(&mut self, record: &Record, expected: &Answer, fault: &Fault) -> Result<(), Wrong> {
+        self.lay_out(record, expected);
+        self.fill();
+        self.plant_before(fault);
+        self.look_before()?;
+        self.call(record);
+        self.plant_after(fault);
+        self.fetch_part();
+        self.look_after()
+    }
+
+    /// The stretches of the last call. They depend on the call and on the expected answer only.
+    pub fn stretches(&self) -> &[Stretch] {
+        &self.stretches
+    }
+
+    // -----------------------------------------------------------------------------------------
+    // Before the call
+
+    /// Lays out the stretches and makes the image.
+    fn lay_out(&mut self, record: &Record, expected: &Answer) {
+        self.image.clear();
+        self.stretches.clear();
+        // bytes, unlike numbers, come to stand at any address
+        let odd = record.bytes.len() % 8;
+        // the call's own answer is put here for it
+        self.put("number", Sort::Lent, 0, &native(&[expected.number]));
+        match record.call {
+            Call::FascnEncode => self.put("input", Sort::Input, 0, &native(&record.numbers())),
+            _ => self.put("input", Sort::Input, odd, &record.bytes),
+        }
+        for (name, bytes) in lent(record.call, expected) {
+            self.put(name, Sort::Lent, if name == "room" { odd } else { 0 }, &bytes);
+        }
+        if record.call == Call::View {
+            // last: what is wrong with the offset, the length or the input is told as such
+            self.put("part", Sort::Lent, 0, &expected.part);
+        }
+        self.put_guard(0);
+    }
+
+    /// A guard, and then the stretch, at an address with this rest modulo eight.
+    fn put(&mut self, name: &'static str, sort: Sort, rest: usize, bytes: &[u8]) {
+        self.put_guard(rest);
+        let from = self.image.len();
+        self.image.extend(bytes);
+        self.stretches.push(Stretch { name, sort, range: from..self.image.len() });
+    }
+
+    fn put_guard(&mut self, rest: usize) {
+        let from = self.image.len();
+        let to = (from + GUARD + 7) / 8 * 8 + rest;
+        for _ in from..to {
+            self.image.push(other(&mut self.rng, 0));
+        }
+        self.stretches.push(Stretch { name: "guard", sort: Sort::Guard, range: from..to });
+    }
+
+    /// The memory is like the image, but for what is lent: there each byte is another one.
+    fn fill(&mut self) {
+        let memory = &mut self.memory.0[..self.image.len()];
+        memory.copy_from_slice(&self.image);
+        for stretch in self.stretches.iter().filter(|stretch| stretch.sort == Sort::Lent) {
+            for byte in &mut memory[stretch.range.clone()] {
+                *byte = other(&mut self.rng, *byte);
+            }
+        }
+    }
+
+    /// Whether the memory is filled as it should be, however that was done.
+    fn look_before(&self) -> Result<(), Wrong> {
+        for stretch in &self.stretches {
+            for at in stretch.range.clone() {
+                let (is, expected) = (self.memory.0[at], self.image[at]);
+                let good = match stretch.sort {
+                    Sort::Guard => is == expected && is != 0,
+                    Sort::Input => is == expected,
+                    Sort::Lent => is != expected && is != 0,
+                };
+                if !good {
+                    return Err(Wrong::Filling(at));
+                }
+            }
+        }
+        Ok(())
+    }
+
+    // -----------------------------------------------------------------------------------------
+    // The call
+
+    fn range(&self, name: &str) -> Range<usize> {
+        let stretch = self.stretches.iter().find(|stretch| stretch.name == name);
+        stretch.unwrap_or_else(|| panic!("this call has no {}", name)).range.clone()
+    }
+
+    /// Each pointer is that of a stretch of the size that goes with it, and no two stretches overlap.
+    fn call(&mut self, record: &Record) {
+        let memory = self.memory.0.as_mut_ptr();
+        let at = |name| unsafe { memory.add(self.range(name).start) };
+        let lent = |name| at(name) as *mut u64;
+        let (kind, today, room) = (record.kind, record.today, record.room);
+        let (input, size) = (at("input") as *const u8, record.bytes.len());
+        let number = unsafe {
+            match record.call {
+                Call::Check => prosianek_check(kind, today, input, size, lent("place")),
+                Call::Read => prosianek_read(kind, today, input, size, at("room"), room, lent("place"), lent("length")),
+                Call::Write => {
+                    prosianek_write(kind, today, input, size, at("room"), room, lent("place"), lent("length"))
+                }
+                Call::View => {
+                    prosianek_view(kind, today, input, size, record.tag, lent("place"), lent("offset"), lent("length"))
+                }
+                Call::Report => prosianek_report(kind, today, input, size, at("room"), room, lent("length")),
+                Call::FascnDecode => prosianek_fascn_decode(input, size, at("numbers") as *mut [u64; 9]),
+                Call::FascnEncode => prosianek_fascn_encode(input as *const [u64; 9], at("room"), room),
+            }
+        };
+        let to = self.range("number");
+        self.memory.0[to].copy_from_slice(&native(&[number]));
+    }
+
+    // -----------------------------------------------------------------------------------------
+    // After the call
+
+    fn number_at(&self, name: &str) -> u64 {
+        numbers(&self.memory.0[self.range(name)])[0]
+    }
+
+    /// Puts the part of the input that a view's answer names where the expected one is in the image.
+    fn fetch_part(&mut self) {
+        if self.stretches.iter().all(|stretch| stretch.name != "part") {
+            return;
+        }
+        let (offset, length) = (self.number_at("offset") as usize, self.number_at("length") as usize);
+        let (input, to) = (self.range("input"), self.range("part"));
+        let end = offset.checked_add(length).filter(|&end| end <= input.len() && length == to.len());
+        if let Some(end) = end {
+            self.memory.0.copy_within(input.start + offset..input.start + end, to.start);
+        }
+    }
+
+    fn look_after(&self) -> Result<(), Wrong> {
+        match self.memory.0.iter().zip(&self.image).position(|(is, expected)| is != expected) {
+            Some(at) => Err(Wrong::Answer(at)),
+            None => Ok(()),
+        }
+    }
+
+    /// What is wrong, in words, with the call and both answers.
+    pub fn tell(&self, record: &Record, wrong: Wrong) -> String {
+        let (what, at) = match wrong {
+            Wrong::Filling(at) => ("wrong before the call, by the comparison's own fault", at),
+            Wrong::Answer(at) => ("different", at),
+        };
+        let which = self.stretches.iter().position(|stretch| stretch.range.contains(&at)).expect("a byte in use");
+        let before = match self.stretches.get(which + 1) {
+            Some(next) if self.stretches[which].sort == Sort::Guard => format!(" before {}", next.name),
+            _ => String::new(),
+        };
+        let Stretch { name, range, .. } = &self.stretches[which];
+        format!(
+            "{}: {}{}, byte {}, is {:02X} where {:02X} is expected\n  {}\n  expected {}\n  got      {}",
+            what,
+            name,
+            before,
+            at - range.start,
+            self.memory.0[at],
+            self.image[at],
+            call_text(record),
+            self.answer_text(&self.image),
+            self.answer_text(&self.memory.0)
+        )
+    }
+
+    fn answer_text(&self, memory: &[u8]) -> String {
+        let text = |stretch: &Stretch| {
+            let bytes = &memory[stretch.range.clone()];
+            let text = match stretch.name {
+                "room" | "part" => hex(bytes),
+                _ => numbers(bytes).iter().map(u64::to_string).collect::<Vec<_>>().join(" "),
+            };
+            format!("{} {}", stretch.name, text)
+        };
+        let lent = self.stretches.iter().filter(|stretch| stretch.sort == Sort::Lent);
+        lent.map(text).collect::<Vec<_>>().join(", ")
+    }
+
+    // -----------------------------------------------------------------------------------------
+    // Planted faults
+
+    fn plant_before(&mut self, fault: &Fault) {
+        match fault.clone() {
+            Fault::Foreseen(range) => self.memory.0[range.clone()].copy_from_slice(&self.image[range]),
+            Fault::Zeros(range) => self.memory.0[range].fill(0),
+            Fault::NoGuard(range) => {
+                self.image[range.clone()].fill(0);
+                self.memory.0[range].fill(0);
+            }
+            _ => (),
+        }
+    }
+
+    fn plant_after(&mut self, fault: &Fault) {
+        match *fault {
+            Fault::Changed(at) => self.memory.0[at] ^= other(&mut self.rng, 0),
+            Fault::OtherPart(at) => self.image[at] ^= other(&mut self.rng, 0),
+            _ => (),
+        }
+    }
+}
+
+/// So many hex digits of an input or a room are shown.
+const DIGITS_SHOWN: usize = 200;
+
+fn hex(bytes: &[u8]) -> String {
+    let shown = &bytes[..bytes.len().min(DIGITS_SHOWN / 2)];
+    let digits: String = shown.iter().map(|byte| format!("{:02X}", byte)).collect();
+    let more = if shown.len() < bytes.len() { "..." } else { "" };
+    format!("{}{} ({} bytes)", digits, more, bytes.len())
+}
+
+pub fn call_text(record: &Record) -> String {
+    format!(
+        "{}: kind {}, today {}, tag {}, room {}, input {}",
+        record.call.name(),
+        record.kind,
+        record.today,
+        record.tag,
+        record.room,
+        hex(&record.bytes)
+    )
+}

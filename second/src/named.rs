@@ -1,0 +1,506 @@
+//! Named calls with the answers that 01 gives them, written out: its examples that a program has to run, refusals of every call,
+//! and rooms at their edges. The tests of this program run them, and the comparison runs them through both programs.
+
+use crate::batch::{Answer, Call, Record};
+use crate::card::Refusal;
+use crate::generate::{Card, EXAMPLE_DAY, EXAMPLE_DISCOVERY, EXAMPLE_FASCN};
+use crate::samples::{card, ccc, chuid, discovery, face, fingers, printed, security, wrong_fascn, UUID};
+use crate::CONTAINER_MAX;
+
+/// A call and its answer.
+pub type Case = (Record, Answer);
+
+/// Calls of one sort, with a name.
+pub type Group = (&'static str, Vec<Case>);
+
+pub fn all() -> Vec<Group> {
+    [fascns(), biometrics(), limits(), conforming(), broken(), there_and_back(), refused_sheets(), views(), reports()]
+        .concat()
+}
+
+// ---------------------------------------------------------------------------------------------
+// The calls
+
+fn given(call: Call, kind: u64, bytes: &[u8]) -> Record {
+    Record { call, kind, today: EXAMPLE_DAY, tag: 0, room: 0, fill: 0, bytes: bytes.to_vec() }
+}
+
+fn on(today: u64, (record, answer): Case) -> Case {
+    (Record { today, ..record }, answer)
+}
+
+fn refused((number, place): Refusal) -> Answer {
+    Answer { number, place, ..Answer::default() }
+}
+
+/// What a call leaves in a room that held FF: its output and zeros behind it, or zeros after a refusal.
+fn into_room(record: Record, room: usize, outcome: Result<&[u8], Refusal>) -> Case {
+    let (verdict, output) = match outcome {
+        Ok(output) => ((0, 0), output),
+        Err(refusal) => (refusal, &[][..]),
+    };
+    let mut left = output.to_vec();
+    left.resize(room, 0);
+    (Record { room, fill: 0xFF, ..record }, Answer { length: output.len() as u64, room: left, ..refused(verdict) })
+}
+
+fn check(kind: u64, container: &[u8], verdict: Refusal) -> Case {
+    (given(Call::Check, kind, container), refused(verdict))
+}
+
+fn read(kind: u64, container: &[u8], room: usize, outcome: Result<&[u8], Refusal>) -> Case {
+    into_room(given(Call::Read, kind, container), room, outcome)
+}
+
+fn write(kind: u64, sheet: &[u8], room: usize, outcome: Result<&[u8], Refusal>) -> Case {
+    into_room(given(Call::Write, kind, sheet), room, outcome)
+}
+
+/// A view is told by the offset and the length of its part.
+fn view(kind: u64, container: &[u8], tag: u64, outcome: Result<(usize, usize), Refusal>) -> Case {
+    let record = Record { tag, ..given(Call::View, kind, container) };
+    let answer = match outcome {
+        Ok((offset, length)) => {
+            let part = container[offset..offset + length].to_vec();
+            Answer { offset: offset as u64, length: length as u64, part, ..Answer::default() }
+        }
+        Err(refusal) => refused(refusal),
+    };
+    (record, answer)
+}
+
+fn report(kind: u64, container: &[u8], room: usize, outcome: Result<&str, u64>) -> Case {
+    into_room(given(Call::Report, kind, container), room, outcome.map(str::as_bytes).map_err(|number| (number, 0)))
+}
+
+fn decode(bytes: &[u8], outcome: Result<[u64; 9], u64>) -> Case {
+    let answer = match outcome {
+        Ok(numbers) => Answer { numbers, ..Answer::default() },
+        Err(number) => refused((number, 0)),
+    };
+    (Record { today: 0, ..given(Call::FascnDecode, 0, bytes) }, answer)
+}
+
+fn encode(numbers: &[u64; 9], room: usize, outcome: Result<&[u8], u64>) -> Case {
+    let bytes: Vec<u8> = numbers.iter().flat_map(|number| number.to_be_bytes()).collect();
+    let record = Record { today: 0, ..given(Call::FascnEncode, 0, &bytes) };
+    let (record, answer) = into_room(record, room, outcome.map_err(|number| (number, 0)));
+    // an encoding tells no length
+    (record, Answer { length: 0, ..answer })
+}
+
+// ---------------------------------------------------------------------------------------------
+// The containers that several groups have
+
+const EXPIRES: &[u8] = b"20300131";
+
+/// The smallest SECURITY.
+const SMALL: [u8; 8] = [0x53, 6, 0xBA, 0, 0xBB, 0, 0xFE, 0];
+
+/// Case R.
+fn case_r() -> Card {
+    chuid(&EXAMPLE_FASCN, EXPIRES, &[])
+}
+
+/// A CHUID with each optional element.
+fn whole_chuid(signature: &[u8]) -> Card {
+    let values: [&[u8]; 9] = [&[1, 2], &EXAMPLE_FASCN, &[3; 4], &[4; 9], &UUID, EXPIRES, &UUID, signature, &[]];
+    card(2, &values.map(Some))
+}
+
+/// A conforming CHUID of so many bytes, when its 3E is written in three bytes of length.
+fn large_chuid(total: usize) -> Card {
+    let rest = case_r().container().len() + 4;
+    chuid(&EXAMPLE_FASCN, EXPIRES, &vec![7; total - rest])
+}
+
+// ---------------------------------------------------------------------------------------------
+// FASC-N alone
+
+const P1: [u64; 9] = [1234, 1, 5, 1, 1, 7, 1, 1234, 1];
+
+fn fascns() -> Vec<Group> {
+    let mut long = EXAMPLE_FASCN.to_vec();
+    long.push(0);
+    let with = |field: usize, number: u64| {
+        let mut numbers = P1;
+        numbers[field] = number;
+        numbers
+    };
+    let mut most = with(2, 999_999);
+    most[5] = 9_999_999_999;
+    let most_bytes = [
+        0xD4, 0x11, 0x92, 0x58, 0x21, 0x0C, 0x2D, 0x39, 0xCE, 0x73, 0x9D, 0xA1, 0x68, 0x5A, 0x73, 0x9C, 0xE7, 0x39,
+        0xCE, 0x73, 0x84, 0x11, 0x92, 0x43, 0xE2,
+    ];
+    vec![
+        (
+            "FASC-N decoded: P1, P2, 25 zero bytes, 24 bytes, 26 bytes, nothing",
+            vec![
+                decode(&EXAMPLE_FASCN, Ok(P1)),
+                decode(&wrong_fascn(), Err(17)),
+                decode(&[0; 25], Err(17)),
+                decode(&EXAMPLE_FASCN[..24], Err(17)),
+                decode(&long, Err(17)),
+                decode(&[], Err(17)),
+            ],
+        ),
+        (
+            "FASC-N encoded: P1 into rooms of 40, 25 and 24 bytes",
+            vec![encode(&P1, 40, Ok(&EXAMPLE_FASCN)), encode(&P1, 25, Ok(&EXAMPLE_FASCN)), encode(&P1, 24, Err(3))],
+        ),
+        (
+            "seven digits of credential, eleven of person, the most of two fields, a room that is too small as well",
+            vec![
+                encode(&with(2, 1_000_000), 40, Err(7)),
+                encode(&with(5, 10_000_000_000), 40, Err(7)),
+                encode(&most, 26, Ok(&most_bytes)),
+                encode(&with(0, 10_000), 24, Err(7)),
+            ],
+        ),
+    ]
+}
+
+// ---------------------------------------------------------------------------------------------
+// Checks
+
+fn biometrics() -> Vec<Group> {
+    let fingers_of = |quality, verdict| check(6, &fingers(quality, b'0', [0, 0]).container(), verdict);
+    let face_of = |quality, verdict| check(7, &face(quality, 1, 1).container(), verdict);
+    let views = |counts| check(6, &fingers(100, b'0', counts).container(), (0, 0));
+    let value = face(100, 1, 1).rows[0].clone().unwrap_or_default();
+    let bc_of = |length: usize, verdict| check(7, &card(7, &[Some(&value[..length]), Some(&[])]).container(), verdict);
+    vec![
+        (
+            "quality FD, FE, FF, 64, 65 in FINGERS",
+            vec![
+                fingers_of(0xFD, (21, 3)),
+                fingers_of(0xFE, (0, 0)),
+                fingers_of(0xFF, (0, 0)),
+                fingers_of(0x64, (0, 0)),
+                fingers_of(0x65, (21, 3)),
+            ],
+        ),
+        (
+            "quality FD, FE, FF, 64, 65 in FACE",
+            vec![
+                face_of(0xFD, (21, 2)),
+                face_of(0xFE, (0, 0)),
+                face_of(0xFF, (21, 2)),
+                face_of(0x64, (0, 0)),
+                face_of(0x65, (21, 2)),
+            ],
+        ),
+        ("FINGERS with 0 and with 128 minutiae in a view", vec![views([0, 0]), views([128, 128]), views([0, 128])]),
+        ("the old version number in the minutiae", vec![check(6, &fingers(100, 0, [0, 0]).container(), (22, 3))]),
+        (
+            "BC of 87, 88, 89 and 90 bytes, FACE",
+            vec![bc_of(87, (16, 2)), bc_of(88, (21, 2)), bc_of(89, (21, 2)), bc_of(90, (0, 0))],
+        ),
+    ]
+}
+
+fn limits() -> Vec<Group> {
+    let day = |today, number| on(today, check(5, &SMALL, (number, 0)));
+    vec![
+        ("an empty container, and one without elements", vec![check(2, &[], (10, 0)), check(2, &[0x53, 0], (15, 2))]),
+        (
+            "conforming containers of exactly 32,768 bytes and of 32,769",
+            vec![
+                check(2, &large_chuid(CONTAINER_MAX).container(), (0, 0)),
+                check(2, &large_chuid(CONTAINER_MAX + 1).container(), (4, 0)),
+            ],
+        ),
+        (
+            "kind 0, 8 and the largest number",
+            vec![check(0, &SMALL, (1, 0)), check(8, &SMALL, (1, 0)), check(u64::MAX, &SMALL, (1, 0))],
+        ),
+        (
+            "today 0, 20230229, 10101, 99991231, 99999999 and the largest number, SECURITY",
+            vec![day(0, 2), day(20230229, 2), day(10101, 0), day(99991231, 0), day(99999999, 2), day(u64::MAX, 2)],
+        ),
+    ]
+}
+
+fn conforming() -> Vec<Group> {
+    let conforms = |card: Card| check(card.kind, &card.container(), (0, 0));
+    vec![
+        (
+            "one of every kind: CCC, CHUID, DISCOVERY, PRINTED, SECURITY, FINGERS, FACE",
+            vec![
+                conforms(ccc(0x10)),
+                conforms(case_r()),
+                conforms(discovery([0x40, 0])),
+                conforms(printed(b"AGENT", EXPIRES)),
+                conforms(security(&[1, 2], &[3; 200])),
+                conforms(fingers(100, b'0', [3, 5])),
+                conforms(face(100, 300, 40)),
+            ],
+        ),
+        ("a CHUID with each optional element", vec![conforms(whole_chuid(&[]))]),
+        (
+            "an expiry on the first and on the last day of its window",
+            vec![conforms(chuid(&EXAMPLE_FASCN, b"20260301", &[])), conforms(chuid(&EXAMPLE_FASCN, b"20320301", &[]))],
+        ),
+    ]
+}
+
+fn broken() -> Vec<Group> {
+    let breaks = |card: Card, number, place| check(card.kind, &card.container(), (number, place));
+    let security_of = |elements: &[u8], number, place| {
+        let container = [&[0x53, elements.len() as u8], elements].concat();
+        check(5, &container, (number, place))
+    };
+    let with_length = |length: &[u8], bytes: usize| {
+        let elements = [&[0xBA, 0, 0xBB], length, &vec![1; bytes], &[0xFE, 0]].concat();
+        check(5, &[&[0x53, 0x81, elements.len() as u8], &elements[..]].concat(), (11, 5))
+    };
+    vec![
+        (
+            "a CHUID with a bad FASC-N, with an expiry before and after its window",
+            vec![
+                breaks(chuid(&wrong_fascn(), EXPIRES, &[]), 17, 2),
+                breaks(chuid(&EXAMPLE_FASCN, b"20260228", &[]), 19, 47),
+                breaks(chuid(&EXAMPLE_FASCN, b"20320302", &[]), 19, 47),
+            ],
+        ),
+        (
+            "P14; a 5F without 2F; bytes after the outer end",
+            vec![
+                breaks(discovery([0x60, 0]), 20, 15),
+                check(3, &[0x7E, 2, 0x5F, 0], (13, 2)),
+                check(5, &[&SMALL[..], &[0]].concat(), (12, 0)),
+            ],
+        ),
+        (
+            "tags swapped, doubled, unknown, missing at the end",
+            vec![
+                security_of(&[0xBB, 0, 0xBA, 0, 0xFE, 0], 15, 2),
+                security_of(&[0xBA, 0, 0xBA, 0, 0xFE, 0], 14, 4),
+                security_of(&[0xBA, 0, 0x99, 0, 0xFE, 0], 13, 4),
+                security_of(&[0xBA, 0, 0xBB, 0], 15, 6),
+            ],
+        ),
+        (
+            "lengths 81 7F, 82 00 FF, 80 and 83 of an element",
+            vec![
+                with_length(&[0x81, 0x7F], 127),
+                with_length(&[0x82, 0x00, 0xFF], 127),
+                with_length(&[0x80], 127),
+                with_length(&[0x83, 0, 0], 128),
+            ],
+        ),
+        (
+            "PRINTED with a byte 7F in 02, with the date 21000229",
+            vec![breaks(printed(b"AGEN\x7F", EXPIRES), 23, 13), breaks(printed(b"AGENT", b"21000229"), 19, 20)],
+        ),
+    ]
+}
+
+// ---------------------------------------------------------------------------------------------
+// Sheets
+
+fn there_and_back() -> Vec<Group> {
+    let group = |name, card: Card| {
+        let (container, sheet) = (card.container(), card.sheet());
+        let read = |room, outcome| read(card.kind, &container, room, outcome);
+        let write = |room, outcome| write(card.kind, &sheet, room, outcome);
+        let cases = vec![
+            read(sheet.len() - 1, Err((3, 0))),
+            read(sheet.len(), Ok(&sheet)),
+            read(sheet.len() + 5, Ok(&sheet)),
+            write(container.len() - 1, Err((3, 0))),
+            write(container.len(), Ok(&container)),
+            write(container.len() + 5, Ok(&container)),
+        ];
+        (name, cases)
+    };
+    // rooms one byte short, exact and larger
+    vec![
+        group("CCC read and written", ccc(0x10)),
+        group("CHUID read and written", whole_chuid(&[0x30, 3, 1, 1, 0xFF])),
+        group("DISCOVERY read and written", discovery([0x60, 0x10])),
+        group("PRINTED read and written", printed(b"AGENT", EXPIRES)),
+        group("SECURITY read and written", security(&[1, 2], &[3; 140])),
+        group("FINGERS read and written", fingers(100, b'0', [1, 2])),
+        group("FACE read and written", face(100, 3, 4)),
+    ]
+}
+
+fn refused_sheets() -> Vec<Group> {
+    let sheet = case_r().sheet();
+    let refuses = |sheet: &[u8], number, place| write(2, sheet, 70, Err((number, place)));
+    let mut past_the_end = sheet.clone();
+    past_the_end[2..4].fill(0xFF);
+    let mut no_end = sheet.clone();
+    *no_end.last_mut().unwrap() = 0;
+    let with_uuid = |uuid| {
+        let values = [None, Some(&EXAMPLE_FASCN[..]), None, None, uuid, Some(EXPIRES), None, Some(&[]), Some(&[])];
+        card(2, &values).sheet()
+    };
+    vec![
+        (
+            "read of a broken container, of an empty one, with kind 0, with no date",
+            vec![
+                read(2, &chuid(&wrong_fascn(), EXPIRES, &[]).container(), 80, Err((17, 2))),
+                read(2, &[], 4, Err((10, 0))),
+                read(0, &SMALL, 4, Err((1, 0))),
+                on(0, read(5, &SMALL, 4, Err((2, 0)))),
+            ],
+        ),
+        (
+            "CHUID sheets: a byte left over, cut short, a count that runs past the end, empty",
+            vec![
+                refuses(&[&sheet[..], &[0]].concat(), 5, 0),
+                refuses(&sheet[..sheet.len() - 1], 5, 0),
+                refuses(&past_the_end, 5, 0),
+                refuses(&[], 5, 0),
+            ],
+        ),
+        (
+            "a mandatory row absent, a length that is not permitted, an expiry outside the window, a bad FASC-N, no FE",
+            vec![
+                refuses(&with_uuid(None), 15, 33),
+                refuses(&with_uuid(Some(&[1; 15])), 16, 33),
+                refuses(&chuid(&EXAMPLE_FASCN, b"20330101", &[]).sheet(), 19, 51),
+                refuses(&chuid(&wrong_fascn(), EXPIRES, &[]).sheet(), 17, 2),
+                refuses(&no_end, 15, 65),
+            ],
+        ),
+        (
+            "a container over 32,768 bytes to be written (4 before 3), kind 8, no date",
+            vec![
+                write(2, &chuid(&EXAMPLE_FASCN, EXPIRES, &[7; 33_000]).sheet(), 10, Err((4, 0))),
+                write(8, &sheet, 10, Err((1, 0))),
+                on(20260230, write(2, &sheet, 10, Err((2, 0)))),
+            ],
+        ),
+    ]
+}
+
+// ---------------------------------------------------------------------------------------------
+// Views and reports
+
+fn views() -> Vec<Group> {
+    let chuid_view = |tag, outcome| view(2, &case_r().container(), tag, outcome);
+    let discovery_view = |tag, outcome| view(3, &EXAMPLE_DISCOVERY, tag, outcome);
+    vec![
+        (
+            "views of a CHUID: 30, 36 absent, FE (empty), BA of another kind, 5F2F; of a broken CHUID",
+            vec![
+                chuid_view(0x30, Ok((4, 25))),
+                chuid_view(0x36, Err((6, 0))),
+                chuid_view(0xFE, Ok((61, 0))),
+                chuid_view(0xBA, Err((6, 0))),
+                chuid_view(0x5F2F, Err((6, 0))),
+                view(2, &chuid(&wrong_fascn(), EXPIRES, &[]).container(), 0x30, Err((17, 2))),
+            ],
+        ),
+        (
+            "views of 34 and 36, which have the same bytes",
+            vec![
+                view(2, &whole_chuid(&[]).container(), 0x34, Ok((52, 16))),
+                view(2, &whole_chuid(&[]).container(), 0x36, Ok((80, 16))),
+            ],
+        ),
+        (
+            "views of DISCOVERY: 5F2F, 4F, 5F, 2F, and the largest number",
+            vec![
+                discovery_view(0x5F2F, Ok((18, 2))),
+                discovery_view(0x4F, Ok((4, 11))),
+                discovery_view(0x5F, Err((6, 0))),
+                discovery_view(0x2F, Err((6, 0))),
+                discovery_view(u64::MAX, Err((6, 0))),
+            ],
+        ),
+    ]
+}
+
+/// The report of case R.
+pub const CASE_R: &str = "CARD 4\nkind CHUID\nbytes 61\ntoday 20260301\nverdict 0 0\nELEMENTS 5\n30 25\n34 16\n35 8\n3E 0\nFE 0\nOPEN 3\nagency 1234\nsystem 0001\nexpires 20300131\n";
+
+/// A conforming card's report and a broken one's, each told by what differs from others.
+fn pair(name: &'static str, conforming: Card, lines: &str, broken: Card, verdict: &str) -> Group {
+    let kind = name.split(' ').next().unwrap_or_default();
+    let page = |card: Card, verdict: &str, lines: &str| {
+        let container = card.container();
+        let text =
+            format!("CARD 4\nkind {}\nbytes {}\ntoday 20260301\nverdict {}\n{}", kind, container.len(), verdict, lines);
+        report(card.kind, &container, 512, Ok(&text))
+    };
+    (name, vec![page(conforming, "0 0", lines), page(broken, verdict, "ELEMENTS 0\nOPEN 0\n")])
+}
+
+fn reports() -> Vec<Group> {
+    let case_r = case_r().container();
+    let too_large = large_chuid(CONTAINER_MAX + 1).container();
+    let agency = "OPEN 2\nagency 1234\nsystem 0001\n";
+    vec![
+        (
+            "report of case R into rooms of 511, 512 and 600 bytes",
+            vec![
+                report(2, &case_r, 511, Err(3)),
+                report(2, &case_r, 512, Ok(CASE_R)),
+                report(2, &case_r, 600, Ok(CASE_R)),
+            ],
+        ),
+        pair(
+            "CCC reported, conforming and broken",
+            ccc(0x10),
+            "ELEMENTS 13\nF0 21\nF1 1\nF2 1\nF3 0\nF4 1\nF5 1\nF6 17\nF7 0\nFA 0\nFB 0\nFC 0\nFD 0\nFE 0\nOPEN 1\nmodel 10\n",
+            ccc(0x11),
+            "20 36",
+        ),
+        pair(
+            "CHUID reported, conforming and broken",
+            whole_chuid(&[0x30, 3, 1, 1, 0xFF]),
+            "ELEMENTS 9\nEE 2\n30 25\n32 4\n33 9\n34 16\n35 8\n36 16\n3E 5\nFE 0\nOPEN 3\nagency 1234\nsystem 0001\nexpires 20300131\n",
+            chuid(&wrong_fascn(), EXPIRES, &[]),
+            "17 2",
+        ),
+        pair(
+            "DISCOVERY reported, conforming and broken",
+            discovery([0x60, 0x10]),
+            "ELEMENTS 2\n4F 11\n5F2F 2\nOPEN 1\npolicy 6010\n",
+            discovery([0x60, 0]),
+            "20 15",
+        ),
+        pair(
+            "PRINTED reported, conforming and broken",
+            printed(b"AGENT", EXPIRES),
+            "ELEMENTS 6\n01 9\n02 5\n04 8\n05 4\n06 15\nFE 0\nOPEN 1\nissuer GENERIC SENDER \n",
+            printed(b"AGENT", b"20300230"),
+            "19 20",
+        ),
+        pair(
+            "SECURITY reported, conforming and broken",
+            security(&[1, 2], &[3; 140]),
+            "ELEMENTS 3\nBA 2\nBB 140\nFE 0\nOPEN 0\n",
+            card(5, &[Some(&[]), Some(&[]), None]),
+            "15 6",
+        ),
+        pair(
+            "FINGERS reported, conforming and broken",
+            fingers(100, b'0', [1, 2]),
+            &format!("ELEMENTS 2\nBC 145\nFE 0\n{}", agency),
+            fingers(100, 0, [3, 5]),
+            "22 3",
+        ),
+        pair(
+            "FACE reported, conforming and broken",
+            face(100, 3, 4),
+            &format!("ELEMENTS 2\nBC 95\nFE 0\n{}", agency),
+            face(0xFF, 300, 40),
+            "21 4",
+        ),
+        (
+            "report refused: kind 0, no date, and a container of 32,769 bytes; the room is judged before that",
+            vec![
+                report(0, &SMALL, 512, Err(1)),
+                on(20230229, report(5, &SMALL, 512, Err(2))),
+                report(2, &too_large, 512, Err(4)),
+                report(2, &too_large, 100, Err(3)),
+            ],
+        ),
+    ]
+}
