@@ -11,10 +11,7 @@ fn print(input: &[u8], got: usize, text: &[u8])
     requires { ⌜ Prints (now input) got (now text) ⌝ }
 {
     if !io::write_all(STDOUT_FILENO, text) {
-        io::write_all(
-            STDERR_FILENO,
-            b"desk: the text could not be written whole\n",
-        );
+        io::write_all(STDERR_FILENO, b"desk: not all could be written\n");
     }
 }
 
