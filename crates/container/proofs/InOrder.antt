@@ -19,10 +19,10 @@ use Rattle.kinds.specs.Tables.{Entry, Table}
 use Rattle.verdicts.specs.declared.Fault.{Fault}
 use Rattle.verdicts.specs.declared.Fault.the-variants.{TagOrder, MissingRow}
 use Rattle.verdicts.specs.declared.Outcome.{Outcome}
-use Rattle.verdicts.specs.declared.Outcome.the-variants.{Broken}
+use Rattle.verdicts.specs.declared.Outcome.the-variants.{Fine, Broken}
 use Rattle.container.specs.Container.{Values, tagBytes, encode, Allowed}
-use Rattle.container.specs.Reading.{Parsed, values, fault, prepend, Element, whole, broken, element, long, has, tagHere, follow, parse, outcomeOf}
-use Rattle.container.specs.InOrder.{Place, nowhere, found, beyond, locate, onward, placed, inOrder, Owed, First}
+use Rattle.container.specs.Reading.{Parsed, values, fault, prepend, Element, whole, broken, element, long, has, tagHere, misplaced, follow, parse, outcomeOf}
+use Rattle.container.specs.InOrder.{Place, nowhere, found, beyond, locate, faultOf, placed, inOrder, Owed, Wrong, First}
 use Rattle.container.proofs.Rows.{kept, gone}
 use Rattle.container.proofs.Tags.{tag-is}
 use Rattle.container.proofs.One.{element-is, good-fits}
@@ -30,22 +30,40 @@ use Rattle.container.proofs.Exact.{bytes-front, bytes-back}
 
 -- ---- in 01's order
 
+-- a fault at this offset, or else the outcome of what follows
+abbrev told : ℕ → Option Fault → Outcome → Outcome
+told at none o = o
+told at (some f) o = Broken f at
+
 module _ (today : ℕ) (all : Table) (at b : ℕ) (s : List ℕ) where
   abbrev t : ℕ
   t = tagHere all b s
 
-  abbrev go-on : Place → Outcome
-  go-on = placed today all at (b ∷ s) t
+  -- the outcome of what follows an element of a row, with the rows after that one
+  abbrev past : Entry → Table → Element → Outcome
+  past r later (broken f) = Fine
+  past r later (whole v n) = outcomeOf (parse today all later (at + (long (r .tag) + n)) (drop (long (r .tag) + n) (b ∷ s)))
 
-  twice : (o : Bool) (p : Place) → go-on (beyond false (beyond o p)) ≡ go-on (beyond false p)
+  abbrev after : Place → Outcome
+  after nowhere = Fine
+  after (found missed r later) = past r later (element (r .lengths) (r .rule) today (drop (long (r .tag)) (b ∷ s)))
+
+  abbrev placing : Place → Option Fault
+  placing = placed today all (b ∷ s) t
+
+  twice : (o : Bool) (p : Place) → placing (beyond false (beyond o p)) ≡ placing (beyond false p)
   twice o nowhere = refl
   twice o (found m y later) = refl
 
-  same : (p : Place) → go-on (beyond true p) ≡ go-on p
+  same : (p : Place) → placing (beyond true p) ≡ placing p
   same nowhere = refl
   same (found m y later) = refl
 
-  stopped : (rs : Table) → Broken (cond (has t rs) MissingRow TagOrder) at ≡ go-on (beyond false (locate t rs))
+  same-after : (o : Bool) (p : Place) → after (beyond o p) ≡ after p
+  same-after o nowhere = refl
+  same-after o (found m y later) = refl
+
+  stopped : (rs : Table) → some (cond (has t rs) MissingRow TagOrder) ≡ placing (beyond false (locate t rs))
   stopped [] = refl
   stopped (x ∷ xs) =
       elim (which (eqb t (x .tag))) [
@@ -53,29 +71,58 @@ module _ (today : ℕ) (all : Table) (at b : ℕ) (s : List ℕ) where
         | inr q ↦ rw q (stopped xs ∙ sym (twice (x .optional) (locate t xs)))
       ]
 
-  followed-on : (r : Entry) (later : Table) (x : Element) → outcomeOf (follow at x (λ n. parse today all later (at + (long (r .tag) + n)) (drop (long (r .tag) + n) (b ∷ s)))) ≡ onward today all at (b ∷ s) t r later x
+  followed-on : (r : Entry) (later : Table) (x : Element) → outcomeOf (follow at x (λ n. parse today all later (at + (long (r .tag) + n)) (drop (long (r .tag) + n) (b ∷ s)))) ≡ told at (faultOf x) (past r later x)
   followed-on r later (whole v n) = kept (some v) (parse today all later (at + (long (r .tag) + n)) (drop (long (r .tag) + n) (b ∷ s)))
   followed-on r later (broken f) = refl
 
-  listed : (rest : Table) → has t all ≡ true → outcomeOf (parse today all rest at (b ∷ s)) ≡ go-on (locate t rest)
+  listed : (rest : Table) → has t all ≡ true → outcomeOf (parse today all rest at (b ∷ s)) ≡ told at (placing (locate t rest)) (after (locate t rest))
   listed [] h = rw h
   listed (r ∷ rs) h =
       elim (which (eqb t (r .tag))) [
         | inl q ↦ rw q (followed-on r rs (element (r .lengths) (r .rule) today (drop (long (r .tag)) (b ∷ s))))
         | inr q ↦
             elim (which (r .optional)) [
-              | inl o ↦ rw (q, o) (kept none (parse today all rs at (b ∷ s)) ∙ (listed rs h ∙ sym (same (locate t rs))))
-              | inr o ↦ rw (q, o, h) (stopped rs)
+              | inl o ↦ rw (q, o, same (locate t rs), same-after true (locate t rs)) (kept none (parse today all rs at (b ∷ s)) ∙ listed rs h)
+              | inr o ↦ rw (q, o, h, ← stopped rs)
             ]
       ]
 
-  -- an element, while the rows `rest` are to come, which are rows of the table: 13, 14, 15, then its own rules, then on
-  pub in-order : (rest : Table) → (has t all ≡ false → has t rest ≡ false) → outcomeOf (parse today all rest at (b ∷ s)) ≡ inOrder today all at (b ∷ s) t rest
+  -- an element, while the rows `rest` are to come, which are rows of the table: its fault in 01's order, or on with the rows after its own
+  pub in-order : (rest : Table) → (has t all ≡ false → has t rest ≡ false)
+      → outcomeOf (parse today all rest at (b ∷ s)) ≡ told at (inOrder today all (b ∷ s) t rest) (after (locate t rest))
   in-order rest k =
       elim (which (has t all)) [
         | inl h ↦ rw h (listed rest h)
         | inr h ↦ rw h (gone today all at b s rest (k h) ∙ rw h)
       ]
+
+  -- ---- the fault where the walk stops
+
+  -- no row is left
+  none-left : inOrder today all (b ∷ s) t [] ≡ some (misplaced all [] t)
+  none-left = elim (which (has t all)) [ inl h ↦ rw h | inr h ↦ rw h ]
+
+  module _ (r : Entry) (rs : Table) where
+    -- at the row's own element
+    own : (has t all ≡ false → has t (r ∷ rs) ≡ false) → eqb t (r .tag) ≡ true → {f : Fault} → element (r .lengths) (r .rule) today (drop (long (r .tag)) (b ∷ s)) ≡ broken f
+        → inOrder today all (b ∷ s) t (r ∷ rs) ≡ some f
+    own k q e =
+        elim (which (has t all)) [
+          | inl h ↦ rw (h, q, e)
+          | inr h ↦ absurd (true≢false (rw q at (k h)))
+        ]
+
+    -- an optional row without an element changes nothing
+    passing : eqb t (r .tag) ≡ false → r .optional ≡ true → inOrder today all (b ∷ s) t (r ∷ rs) ≡ inOrder today all (b ∷ s) t rs
+    passing q o = rw (q, o, same (locate t rs))
+
+    -- a mandatory one is missing, or the tag is none to come
+    missing : (has t all ≡ false → has t (r ∷ rs) ≡ false) → eqb t (r .tag) ≡ false → r .optional ≡ false → inOrder today all (b ∷ s) t (r ∷ rs) ≡ some (misplaced all rs t)
+    missing k q o =
+        elim (which (has t all)) [
+          | inl h ↦ rw (h, q, o, ← stopped rs)
+          | inr h ↦ let g : has t rs ≡ false = rw q at (k h) in rw (h, g)
+        ]
 
 -- ---- the first broken rule
 
@@ -100,28 +147,20 @@ pub fault-is : {f g : Fault} {p q : ℕ} → fault f p ≡ fault g q → g ≡ f
 fault-is e = cc
 
 -- the fault of what stands at once
-at-once : (today : ℕ) (all rest : Table) (at b : ℕ) (s : List ℕ) (f : Fault) (p : ℕ) → Part all rest → parse today all rest at (b ∷ s) ≡ fault f p → p ≡ at
-    → First today all rest at (b ∷ s) f p
-at-once today all rest at b s f p k e z =
-    record {
-      rows = [];
-      later = rest;
-      vs = [];
-      split = refl;
-      allowed = tt;
-      last = tt;
-      place-is = z ∙ omega arith;
-      written = refl;
-      wrong = rw z (sym (in-order today all at b s rest (k (tagHere all b s))) ∙ ap outcomeOf (rw z at e));
-    }
+at-once : (today : ℕ) (all rest : Table) (at : ℕ) (s : List ℕ) (f : Fault) (p : ℕ) → p ≡ at → Wrong today all rest s f → First today all rest at s f p
+at-once today all rest at s f p z w =
+    record { rows = []; later = rest; vs = []; split = refl; allowed = tt; last = tt; place-is = z ∙ omega arith; written = refl; wrong = w }
 
 -- an optional row without an element
-skip : (today : ℕ) (all : Table) (r : Entry) (rs : Table) (at x : ℕ) (s : List ℕ) (f : Fault) (p : ℕ) → r .optional ≡ true → Part all (r ∷ rs)
-    → parse today all (r ∷ rs) at (x ∷ s) ≡ fault f p → First today all rs at (x ∷ s) f p → First today all (r ∷ rs) at (x ∷ s) f p
-skip today all r rs at x s f p o k e b = go (b .rows) (b .vs) refl refl (b .allowed)
+skip : (today : ℕ) (all : Table) (r : Entry) (rs : Table) (at : ℕ) (s : List ℕ) (f : Fault) (p : ℕ) → r .optional ≡ true → (Wrong today all rs s f → Wrong today all (r ∷ rs) s f)
+    → First today all rs at s f p → First today all (r ∷ rs) at s f p
+skip today all r rs at s f p o k b = go (b .rows) (b .vs) refl refl (b .allowed)
   where
-    go : (rows : Table) (vs : Values) → b .rows ≡ rows → b .vs ≡ vs → Allowed today rows vs → First today all (r ∷ rs) at (x ∷ s) f p
-    go [] [] m n a = let z : p ≡ at + length (encode [] []) = b .place-is ∙ rw m in at-once today all (r ∷ rs) at x s f p k e (omega (arith, z))
+    go : (rows : Table) (vs : Values) → b .rows ≡ rows → b .vs ≡ vs → Allowed today rows vs → First today all (r ∷ rs) at s f p
+    go [] [] m n a =
+        let z : p ≡ at + length (encode [] []) = b .place-is ∙ rw m in
+        let e : b .later ≡ rs = sym (b .split ∙ rw m) in
+        at-once today all (r ∷ rs) at s f p (omega (arith, z)) (k (rw (m, e) at (b .wrong)))
     go [] (v ∷ vs) m n a = absurd a
     go (y ∷ ys) [] m n a = absurd a
     go (y ∷ ys) (v ∷ vs) m n a =
@@ -182,39 +221,29 @@ module _ (today : ℕ) (all : Table) where
       }
 
   follow-fault : (at : ℕ) (x : Element) (k : ℕ → Parsed) {f : Fault} {p : ℕ} → follow at x k ≡ fault f p
-      → {P : Type 0} → (p ≡ at → P) → ((v : List ℕ) (n : ℕ) → x ≡ whole v n → k n ≡ fault f p → P) → P
+      → {P : Type 0} → (x ≡ broken f → p ≡ at → P) → ((v : List ℕ) (n : ℕ) → x ≡ whole v n → k n ≡ fault f p → P) → P
   follow-fault at (whole v n) k e here on = on v n refl (fault-of (some v) (k n) e)
-  follow-fault at (broken g) k e here on = here (place-of e)
+  follow-fault at (broken g) k e here on = here (ap broken (sym (fault-is e))) (place-of e)
 
   ended : (rest : Table) (at : ℕ) (f : Fault) (p : ℕ) → parse today all rest at [] ≡ fault f p → First today all rest at [] f p
-  ended rest at f p e =
-      let h = at-end today all at rest e in
-      record {
-        rows = [];
-        later = rest;
-        vs = [];
-        split = refl;
-        allowed = tt;
-        last = tt;
-        place-is = h .2 ∙ omega arith;
-        written = refl;
-        wrong = (h .0, h .1);
-      }
+  ended rest at f p e = let h = at-end today all at rest e in at-once today all rest at [] f p (h .2) (h .0, h .1)
 
   -- the fault that is read is the first one
   pub first : (rest : Table) (at : ℕ) (s : List ℕ) → Bytes s → Part all rest → (f : Fault) (p : ℕ) → parse today all rest at s ≡ fault f p → First today all rest at s f p
   first [] at [] b k f p e = ended [] at f p e
-  first [] at (x ∷ s) b k f p e = at-once today all [] at x s f p k e (place-of e)
+  first [] at (x ∷ s) b k f p e = at-once today all [] at (x ∷ s) f p (place-of e) (none-left today all at x s ∙ ap some (sym (fault-is e)))
   first (r ∷ rs) at [] b k f p e = ended (r ∷ rs) at f p e
   first (r ∷ rs) at (x ∷ s) b k f p e =
       elim (which (eqb (tagHere all x s) (r .tag))) [
         | inl q ↦
             follow-fault at (element (r .lengths) (r .rule) today (drop (long (r .tag)) (x ∷ s))) (λ n. parse today all rs (at + (long (r .tag) + n)) (drop (long (r .tag) + n) (x ∷ s))) (rw q at e)
-            (λ z. at-once today all (r ∷ rs) at x s f p k e z)
+            (λ w z. at-once today all (r ∷ rs) at (x ∷ s) f p z (own today all at x s r rs (k (tagHere all x s)) q w))
             (λ v n w m. after-element r rs at x s b (eqb-true _ _ q) v n p w f (first rs (at + (long (r .tag) + n)) (drop (long (r .tag) + n) (x ∷ s)) (below-drop 256 (long (r .tag) + n) (x ∷ s) b) (next-part all r rs k) f p m))
         | inr q ↦
             elim (which (r .optional)) [
-              | inl o ↦ skip today all r rs at x s f p o k e (first rs at (x ∷ s) b (next-part all r rs k) f p (fault-of none (parse today all rs at (x ∷ s)) (rw (q, o) at e)))
-              | inr o ↦ at-once today all (r ∷ rs) at x s f p k e (place-of (rw (q, o) at e))
+              | inl o ↦ skip today all r rs at (x ∷ s) f p o (λ w. passing today all at x s r rs q o ∙ w) (first rs at (x ∷ s) b (next-part all r rs k) f p (fault-of none (parse today all rs at (x ∷ s)) (rw (q, o) at e)))
+              | inr o ↦
+                  let z : fault (misplaced all rs (tagHere all x s)) at ≡ fault f p = rw (q, o) at e in
+                  at-once today all (r ∷ rs) at (x ∷ s) f p (place-of z) (missing today all at x s r rs (k (tagHere all x s)) q o ∙ ap some (sym (fault-is z)))
             ]
       ]

@@ -49,9 +49,9 @@ module _ (today : ℕ) (all : Table) where
       later o (inr h) = h
 
   module _ (f : Fault) where
-    here : (rest : Table) (at : ℕ) (s : List ℕ) → ((t : ℕ) → has t all ≡ false → has t rest ≡ false) → Wrong today all rest at s f → parse today all rest at s ≡ fault f at
+    here : (rest : Table) (at : ℕ) (s : List ℕ) → ((t : ℕ) → has t all ≡ false → has t rest ≡ false) → Wrong today all rest s f → parse today all rest at s ≡ fault f at
     here rest at [] k w = owing rest at (w .0) ∙ ap (λ (g : Fault). fault g at) (sym (w .1))
-    here rest at (b ∷ s) k w = broken-fault (parse today all rest at (b ∷ s)) f at (in-order today all at b s rest (k (tagHere all b s)) ∙ w)
+    here rest at (b ∷ s) k w = broken-fault (parse today all rest at (b ∷ s)) f at (in-order today all at b s rest (k (tagHere all b s)) ∙ rw w)
 
     -- elements of other rows begin with another tag
     other : (u : ℕ) (rows later : Table) (o : Option (List ℕ)) (vs : Values) (t : List ℕ) → Tags all rows → has u (rows ++ later) ≡ false → Allowed today rows (o ∷ vs) → LastThere (o ∷ vs)
@@ -73,11 +73,11 @@ module _ (today : ℕ) (all : Table) where
         ]
 
     back : (rows later : Table) (vs : Values) (at : ℕ) (t : List ℕ) → Tags all rows → Distinct (rows ++ later) → ((t : ℕ) → has t all ≡ false → has t later ≡ false)
-        → Allowed today rows vs → LastThere vs → Bytes (encode rows vs ++ t) → length (encode rows vs) < 65536 → Wrong today all later (at + length (encode rows vs)) t f
+        → Allowed today rows vs → LastThere vs → Bytes (encode rows vs ++ t) → length (encode rows vs) < 65536 → Wrong today all later t f
         → parse today all (rows ++ later) at (encode rows vs ++ t) ≡ fault f (at + length (encode rows vs))
     back [] later [] at t p d k a l b h w =
         let z : at + 0 ≡ at = omega arith in
-        rw z (here later at t k (rw z at w))
+        rw z (here later at t k w)
     back [] later (o ∷ vs) at t p d k a l b h w = absurd a
     back (r ∷ rs) later [] at t p d k a l b h w = absurd a
     back (r ∷ rs) later (none ∷ []) at t p d k a l b h w = absurd l
@@ -96,7 +96,7 @@ module _ (today : ℕ) (all : Table) where
         let z : at + length (tagBytes (r .tag) ++ (head ++ (v ++ rest))) ≡ at + (long (r .tag) + size today all v) + length rest = omega (arith, x, y, m) in
         rw (e, z)
         (takes today all r (rs ++ later) at v (rest ++ t) (p .0) (omega (arith, x, y, m)) (fits-good today r v (bytes-front v (rest ++ t) b₁) (a .0))
-        ∙ ap (prepend (some v)) (back rs later vs (at + (long (r .tag) + size today all v)) t (p .1) (d .1) k (a .1) l (bytes-back v (rest ++ t) b₁) (omega (arith, x, y, m)) (rw z at w)))
+        ∙ ap (prepend (some v)) (back rs later vs (at + (long (r .tag) + size today all v)) t (p .1) (d .1) k (a .1) l (bytes-back v (rest ++ t) b₁) (omega (arith, x, y, m)) w))
 
 -- ---- rows before and after
 
@@ -126,7 +126,7 @@ module _ (kind today : ℕ) (f : Fault) (p : ℕ) where
       ap (λ (x : Table). parse today (table kind) x at s) (h .split)
       ∙ ap (parse today (table kind) (h .rows ++ h .later) at) q
       ∙ back today (table kind) f (h .rows) (h .later) (h .vs) at t g d (λ u z. has-later u (h .rows) (h .later) (sym (ap (has u) (h .split)) ∙ z)) (h .allowed) (h .last)
-      (rw q at b) n (rw (h .place-is) at (h .wrong))
+      (rw q at b) n (h .wrong)
       ∙ ap (fault f) (sym (h .place-is))
 
   passed : (c : List ℕ) → IsKind kind → IsDate today → length c ≤ largest → outer kind today c ≡ fault f p → parsed kind today c ≡ fault f p

@@ -4,7 +4,7 @@ use Prim.Native.Nat.{ℕ, _+_, _<_, _≤_}
 use mathlib.Core.Logic.{_⊎_}
 use mathlib.Core.Path.{_≡_}
 use mathlib.Core.Bool.{Bool, true, false, cond, not, _||_}
-use mathlib.Core.Option.{none, some}
+use mathlib.Core.Option.{Option, none, some}
 use mathlib.Core.List.{List, [], _∷_, _++_}
 use lib.ListN.{length, take, drop}
 use lib.Dec.{eqb}
@@ -13,10 +13,8 @@ use Rattle.lengths.specs.Length.{Spelt, readLength}
 use Rattle.kinds.specs.Tables.{Entry, Table, table, IsKind}
 use Rattle.verdicts.specs.declared.Fault.{Fault}
 use Rattle.verdicts.specs.declared.Fault.the-variants.{UnknownKind, NoDate, LargeContainer, OuterTag, LengthForm, Overrun, UnknownTag, TagOrder, MissingRow}
-use Rattle.verdicts.specs.declared.Outcome.{Outcome}
-use Rattle.verdicts.specs.declared.Outcome.the-variants.{Broken}
 use Rattle.container.specs.Container.{Values, encode, outerTag, Allowed, largest}
-use Rattle.container.specs.Reading.{Element, whole, broken, element, long, has, tagHere, parse, outcomeOf}
+use Rattle.container.specs.Reading.{Element, whole, broken, element, long, has, tagHere}
 
 -- a tag's row among rows to come: whether a mandatory row stands before it, the row, and the rows after it
 pub data Place : Type 0 where
@@ -31,20 +29,20 @@ abbrev pub locate : ℕ → Table → Place
 locate t [] = nowhere
 locate t (r ∷ rs) = cond (eqb t (r .tag)) (found false r rs) (beyond (r .optional) (locate t rs))
 
--- "then each element: 13, 14, 15, 11, 12, 16, its value's rules in field order"; "Place is the offset of the element's tag". The element has the tag t,
--- stands at the offset `at` with the bytes s, and the rows `rest` of the table `all` are to come; `element` gives 11, 12, 16 and the value's rules
-module _ (today : ℕ) (all : Table) (at : ℕ) (s : List ℕ) (t : ℕ) where
-  abbrev pub onward : Entry → Table → Element → Outcome
-  onward r later (broken f) = Broken f at
-  onward r later (whole v n) = outcomeOf (parse today all later (at + (long (r .tag) + n)) (drop (long (r .tag) + n) s))
+-- "then each element: 13, 14, 15, 11, 12, 16, its value's rules in field order": the fault of an element with the tag t and the bytes s, while the rows
+-- `rest` of the table `all` are to come, or none; `element` gives 11, 12, 16 and the value's rules
+abbrev pub faultOf : Element → Option Fault
+faultOf (broken f) = some f
+faultOf (whole v n) = none
 
-  abbrev pub placed : Place → Outcome
-  placed nowhere = Broken TagOrder at
-  placed (found true r later) = Broken MissingRow at
-  placed (found false r later) = onward r later (element (r .lengths) (r .rule) today (drop (long (r .tag)) s))
+module _ (today : ℕ) (all : Table) (s : List ℕ) (t : ℕ) where
+  abbrev pub placed : Place → Option Fault
+  placed nowhere = some TagOrder
+  placed (found true r later) = some MissingRow
+  placed (found false r later) = faultOf (element (r .lengths) (r .rule) today (drop (long (r .tag)) s))
 
-  abbrev pub inOrder : Table → Outcome
-  inOrder rest = cond (has t all) (placed (locate t rest)) (Broken UnknownTag at)
+  abbrev pub inOrder : Table → Option Fault
+  inOrder rest = cond (has t all) (placed (locate t rest)) (some UnknownTag)
 
 -- ---- the first broken rule
 
@@ -55,9 +53,9 @@ Owed (r ∷ rs) = (r .optional ≡ false) ⊎ Owed rs
 
 -- with the rows `rest` of the table `all` to come, the bytes s break the rule f at once: they end and a mandatory row is due, or the element that they
 -- begin with is at fault
-abbrev pub Wrong : ℕ → Table → Table → ℕ → List ℕ → Fault → Type 0
-Wrong today all rest at [] f = Owed rest × (f ≡ MissingRow)
-Wrong today all rest at (b ∷ s) f = inOrder today all at (b ∷ s) (tagHere all b s) rest ≡ Broken f at
+abbrev pub Wrong : ℕ → Table → Table → List ℕ → Fault → Type 0
+Wrong today all rest [] f = Owed rest × (f ≡ MissingRow)
+Wrong today all rest (b ∷ s) f = inOrder today all (b ∷ s) (tagHere all b s) rest ≡ some f
 
 -- the last of some values is there
 abbrev pub LastThere : Values → Type 0
@@ -77,7 +75,7 @@ pub record First (today : ℕ) (all rest : Table) (at : ℕ) (s : List ℕ) (f :
   pub last : LastThere vs
   pub place-is : place ≡ at + length (encode rows vs)
   pub written : take (length (encode rows vs)) s ≡ encode rows vs
-  pub wrong : Wrong today all later place (drop (length (encode rows vs)) s) f
+  pub wrong : Wrong today all later (drop (length (encode rows vs)) s) f
 
 -- "Check: 1, 2, 4, then outer 10, 11, 12 (place 0), then each element": the first broken rule of the bytes c, and its place
 pub data Named (kind today : ℕ) (c : List ℕ) (f : Fault) (place : ℕ) : Type 0 where
