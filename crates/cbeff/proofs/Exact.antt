@@ -6,9 +6,10 @@ use mathlib.Core.List.{List}
 use native.Mathlib.Omega.{arith}
 use lib.ListN.{length, take, drop}
 use Rattle.laws.specs.Bytes.{Bytes}
-use Rattle.laws.specs.Format.{kept, judge}
+use Rattle.laws.specs.Format.{FirstBroken, kept, breaks, judge}
 use Rattle.laws.proofs.Bases.{below-take, below-drop}
-use Rattle.laws.proofs.Formats.{format-exact, kept-if, laid-long}
+use Rattle.laws.proofs.Formats.{format-exact, first-exact, kept-if, laid-long}
+use Rattle.verdicts.specs.declared.Fault.{Fault}
 use Rattle.verdicts.specs.declared.Fault.the-variants.{BadHeader, BadFascn}
 use Rattle.fascn.specs.Fascn.{IsFascn}
 use Rattle.fascn.proofs.Codec.{fascn-exact}
@@ -21,6 +22,10 @@ use Rattle.cbeff.proofs.Told.{after, header-told}
 -- of any format, and of the two that there are
 pub biometric-exact : (b : Biometric) → (v : List ℕ) → Bytes v → (judge (header b (length v)) 0 v ≡ kept) ↔ IsBiometric b v
 biometric-exact b v h = format-exact (header b (length v)) (header-agrees b (length v)) v h
+
+-- and it names the first rule that a value breaks
+pub first-broken-exact : (b : Biometric) (v : List ℕ) → Bytes v → (f : Fault) → (judge (header b (length v)) 0 v ≡ breaks f) ↔ FirstBroken (header b (length v)) v f
+first-broken-exact b v h f = first-exact (header b (length v)) (header-agrees b (length v)) v h f
 
 pub fingers-exact : (v : List ℕ) → Bytes v → (judge (header fingers (length v)) 0 v ≡ kept) ↔ IsBiometric fingers v
 fingers-exact v h = biometric-exact fingers v h

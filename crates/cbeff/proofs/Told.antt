@@ -1,19 +1,19 @@
 -- The tested form is the table's judge, for every value and every format. Assumes nothing.
 use Prim.Native.Nat.{ℕ, _+_, _<_, _≤_}
-use mathlib.Core.Path.{_≡_, refl, sym}
+use mathlib.Core.Path.{_≡_, refl, sym, _∙_}
 use mathlib.Core.Logic.{inl, inr}
 use mathlib.Core.Bool.{Bool, true, false, cond, _&&_, and-false}
 use mathlib.Core.List.{List}
 use native.Mathlib.Omega.{arith}
 use native.Mathlib.Decide.{decLt}
-use lib.Dec.{eqb}
+use lib.Dec.{leb, eqb}
 use lib.ListN.{length, getD}
 use borrow.Author.Tests.{ne-eqb, eq-eqb, le-leb, lt-leb, leb-true, eqb-true}
 use Rattle.laws.specs.Layout.{field, part}
 use Rattle.laws.specs.Format.{Judged, kept, breaks, judge}
 use Rattle.laws.proofs.Cases.{which, all-true, and-true}
 use Rattle.laws.proofs.Layouts.{field-one}
-use Rattle.laws.proofs.Formats.{cond-and, cond-same}
+use Rattle.laws.proofs.Formats.{LongEnough, long-enough, cond-and, cond-same}
 use Rattle.verdicts.specs.Verdicts.{ruled}
 use Rattle.verdicts.specs.declared.Fault.{Fault}
 use Rattle.verdicts.specs.declared.Rule.the-variants.{Kept, Breaks}
@@ -39,12 +39,19 @@ after b v =
     (breaks BadHeader))
     (breaks BadFascn)
 
--- a value that has room for its header: the fields before the FASC-N, then the others
+-- a value that has room for its header: each field is whole, since the length is as d and s make it before the fields behind the header are read
+whole : (b : Biometric) (v : List ℕ) → 88 ≤ length v → LongEnough (header b (length v)) 0 v
+whole b v l =
+    let n : ℕ = 88 + field v 2 4 + field v 6 2 in
+    let sized : (leb 1 (field v 6 2) && eqb n (length v)) ≡ true → n ≡ length v = λ t. eqb-true n (length v) (and-true (leb 1 (field v 6 2)) (eqb n (length v)) t .1) in
+    (omega arith, λ _. (omega arith, λ _. omega (arith, sized)))
+
+-- and it is judged so: the fields before the FASC-N, then the others
 pub header-told : (b : Biometric) (v : List ℕ) → 88 ≤ length v → judge (header b (length v)) 0 v ≡ cond (opens b v) (after b v) (breaks BadHeader)
 unfolding sizesHold datesHold formHolds
 header-told b v l =
     let q : getD v 40 0 ≡ field v 40 1 = sym (field-one v 40 (omega arith)) in
-    simp (q, cond-and)
+    long-enough (header b (length v)) 0 v (whole b v l) ∙ simp (q, cond-and)
 
 -- a value under 88 bytes breaks the length rule at the latest, and every fault before that is the same
 pub short-told : (b : Biometric) (v : List ℕ) → length v < 88 → judge (header b (length v)) 0 v ≡ breaks BadHeader

@@ -1,9 +1,9 @@
--- The first broken rule: the elements are judged one by one in 01's order, those before the named place keep their rules, and the one there is at
--- fault. Assumes nothing.
+-- The fault that is read is the first broken rule: the elements before its place keep their rules, and the one there is at fault in 01's order.
+-- Assumes nothing.
 use Prim.Native.Nat.{ℕ, _+_}
-use mathlib.Core.Logic.{inl, inr}
+use mathlib.Core.Logic.{inl, inr, ⊎-elim}
 use mathlib.Core.Path.{_≡_, refl, sym, ap, _∙_}
-use mathlib.Core.Bool.{Bool, true, false, cond, true≢false}
+use mathlib.Core.Bool.{true, false, cond, true≢false}
 use mathlib.Core.Option.{Option, none, some}
 use mathlib.Core.List.{List, [], _∷_, _++_}
 use native.Mathlib.Omega.{arith}
@@ -17,77 +17,50 @@ use Rattle.laws.proofs.Cases.{which}
 use Rattle.lengths.specs.Length.{lengthBytes}
 use Rattle.kinds.specs.Tables.{Entry, Table}
 use Rattle.verdicts.specs.declared.Fault.{Fault}
-use Rattle.verdicts.specs.declared.Fault.the-variants.{TagOrder, MissingRow}
-use Rattle.verdicts.specs.declared.Outcome.{Outcome}
-use Rattle.verdicts.specs.declared.Outcome.the-variants.{Broken}
+use Rattle.verdicts.specs.declared.Fault.the-variants.{UnknownTag, TagOrder, MissingRow}
 use Rattle.container.specs.Container.{Values, tagBytes, encode, Allowed}
-use Rattle.container.specs.Reading.{Parsed, values, fault, prepend, Element, whole, broken, element, long, has, tagHere, follow, parse, outcomeOf}
-use Rattle.container.specs.InOrder.{Place, nowhere, found, beyond, locate, onward, placed, inOrder, Owed, First}
-use Rattle.container.proofs.Rows.{kept, gone}
+use Rattle.container.specs.Reading.{Parsed, values, fault, prepend, Element, whole, broken, element, long, has, tagHere, misplaced, follow, parse}
+use Rattle.container.specs.InOrder.{Owed, AtFault, not-in-table, not-to-come, passed-over, in-row, Wrong, First}
 use Rattle.container.proofs.Tags.{tag-is}
 use Rattle.container.proofs.One.{element-is, good-fits}
 use Rattle.container.proofs.Exact.{bytes-front, bytes-back}
+use Rattle.container.proofs.Faults.{faulty-exact}
 
--- ---- in 01's order
+-- ---- what is wrong where the walk over the rows stops
 
-module _ (today : ℕ) (all : Table) (at b : ℕ) (s : List ℕ) where
-  abbrev t : ℕ
-  t = tagHere all b s
+-- a row with this tag is among some rows
+split : (t : ℕ) (rs : Table) → has t rs ≡ true → (before : Table) × (r : Entry) × (after : Table) × (rs ≡ before ++ (r ∷ after)) × (t ≡ r .tag)
+split t [] h = absurd (true≢false (sym h))
+split t (r ∷ rs) h =
+    elim (which (eqb t (r .tag))) [
+      | inl q ↦ ([], r, rs, refl, eqb-true t (r .tag) q)
+      | inr q ↦ let (before, x, after, e, z) = split t rs (rw q at h) in (r ∷ before, x, after, ap (λ (l : Table). r ∷ l) e, z)
+    ]
 
-  abbrev go-on : Place → Outcome
-  go-on = placed today all at (b ∷ s) t
+module _ (today : ℕ) (all : Table) (t : ℕ) (s : List ℕ) where
+  -- no row to come has the tag
+  gone-wrong : (rest : Table) → has t rest ≡ false → AtFault today all rest t s (cond (has t all) TagOrder UnknownTag)
+  gone-wrong rest h = elim (which (has t all)) [
+    | inl g ↦ not-to-come g h (rw g)
+    | inr g ↦ not-in-table g (rw g)
+  ]
 
-  twice : (o : Bool) (p : Place) → go-on (beyond false (beyond o p)) ≡ go-on (beyond false p)
-  twice o nowhere = refl
-  twice o (found m y later) = refl
+  module _ (r : Entry) (rs : Table) (q : eqb t (r .tag) ≡ false) where
+    -- a mandatory row is passed over, or no row to come has the tag
+    missing : r .optional ≡ false → AtFault today all (r ∷ rs) t s (misplaced all rs t)
+    missing o = elim (which (has t rs)) [
+      | inl h ↦ let (before, x, after, e, z) = split t rs h in passed-over (r ∷ before) x after (ap (λ (l : Table). r ∷ l) e) z (inl o) (rw h)
+      | inr h ↦ rw h (gone-wrong (r ∷ rs) (rw q h))
+    ]
 
-  same : (p : Place) → go-on (beyond true p) ≡ go-on p
-  same nowhere = refl
-  same (found m y later) = refl
-
-  stopped : (rs : Table) → Broken (cond (has t rs) MissingRow TagOrder) at ≡ go-on (beyond false (locate t rs))
-  stopped [] = refl
-  stopped (x ∷ xs) =
-      elim (which (eqb t (x .tag))) [
-        | inl q ↦ rw q
-        | inr q ↦ rw q (stopped xs ∙ sym (twice (x .optional) (locate t xs)))
-      ]
-
-  followed-on : (r : Entry) (later : Table) (x : Element) → outcomeOf (follow at x (λ n. parse today all later (at + (long (r .tag) + n)) (drop (long (r .tag) + n) (b ∷ s)))) ≡ onward today all at (b ∷ s) t r later x
-  followed-on r later (whole v n) = kept (some v) (parse today all later (at + (long (r .tag) + n)) (drop (long (r .tag) + n) (b ∷ s)))
-  followed-on r later (broken f) = refl
-
-  listed : (rest : Table) → has t all ≡ true → outcomeOf (parse today all rest at (b ∷ s)) ≡ go-on (locate t rest)
-  listed [] h = rw h
-  listed (r ∷ rs) h =
-      elim (which (eqb t (r .tag))) [
-        | inl q ↦ rw q (followed-on r rs (element (r .lengths) (r .rule) today (drop (long (r .tag)) (b ∷ s))))
-        | inr q ↦
-            elim (which (r .optional)) [
-              | inl o ↦ rw (q, o) (kept none (parse today all rs at (b ∷ s)) ∙ (listed rs h ∙ sym (same (locate t rs))))
-              | inr o ↦ rw (q, o, h) (stopped rs)
-            ]
-      ]
-
-  -- an element, while the rows `rest` are to come, which are rows of the table: 13, 14, 15, then its own rules, then on
-  pub in-order : (rest : Table) → (has t all ≡ false → has t rest ≡ false) → outcomeOf (parse today all rest at (b ∷ s)) ≡ inOrder today all at (b ∷ s) t rest
-  in-order rest k =
-      elim (which (has t all)) [
-        | inl h ↦ rw h (listed rest h)
-        | inr h ↦ rw h (gone today all at b s rest (k h) ∙ rw h)
-      ]
+    -- an optional row without an element changes nothing
+    passing : r .optional ≡ true → {f : Fault} → AtFault today all rs t s f → AtFault today all (r ∷ rs) t s f
+    passing o (not-in-table h e) = not-in-table h e
+    passing o (not-to-come h g e) = not-to-come h (rw q g) e
+    passing o (passed-over before x after e z w f) = passed-over (r ∷ before) x after (ap (λ (l : Table). r ∷ l) e) z (inr w) f
+    passing o (in-row before x after e z n w) = in-row (r ∷ before) x after (ap (λ (l : Table). r ∷ l) e) z (⊎-elim (λ m. true≢false (sym o ∙ m)) n) w
 
 -- ---- the first broken rule
-
--- the rows to come are rows of the table
-abbrev Part : Table → Table → Type 0
-Part all rest = (t : ℕ) → has t all ≡ false → has t rest ≡ false
-
-next-part : (all : Table) (r : Entry) (rs : Table) → Part all (r ∷ rs) → Part all rs
-next-part all r rs k u h = elim (which (eqb u (r .tag))) [
-  | inl q ↦ absurd (true≢false (rw q at (k u h)))
-  | inr q ↦ rw q at (k u h)
-]
 
 fault-of : (o : Option (List ℕ)) (x : Parsed) {f : Fault} {p : ℕ} → prepend o x ≡ fault f p → x ≡ fault f p
 fault-of o (values vs) e = let z : _≡_ {A = ℕ} 0 1 = cc in absurd (omega arith)
@@ -100,28 +73,20 @@ pub fault-is : {f g : Fault} {p q : ℕ} → fault f p ≡ fault g q → g ≡ f
 fault-is e = cc
 
 -- the fault of what stands at once
-at-once : (today : ℕ) (all rest : Table) (at b : ℕ) (s : List ℕ) (f : Fault) (p : ℕ) → Part all rest → parse today all rest at (b ∷ s) ≡ fault f p → p ≡ at
-    → First today all rest at (b ∷ s) f p
-at-once today all rest at b s f p k e z =
-    record {
-      rows = [];
-      later = rest;
-      vs = [];
-      split = refl;
-      allowed = tt;
-      last = tt;
-      place-is = z ∙ omega arith;
-      written = refl;
-      wrong = rw z (sym (in-order today all at b s rest (k (tagHere all b s))) ∙ ap outcomeOf (rw z at e));
-    }
+at-once : (today : ℕ) (all rest : Table) (at : ℕ) (s : List ℕ) (f : Fault) (p : ℕ) → p ≡ at → Wrong today all rest s f → First today all rest at s f p
+at-once today all rest at s f p z w =
+    record { rows = []; later = rest; vs = []; split = refl; allowed = tt; last = tt; place-is = z ∙ omega arith; written = refl; wrong = w }
 
 -- an optional row without an element
-skip : (today : ℕ) (all : Table) (r : Entry) (rs : Table) (at x : ℕ) (s : List ℕ) (f : Fault) (p : ℕ) → r .optional ≡ true → Part all (r ∷ rs)
-    → parse today all (r ∷ rs) at (x ∷ s) ≡ fault f p → First today all rs at (x ∷ s) f p → First today all (r ∷ rs) at (x ∷ s) f p
-skip today all r rs at x s f p o k e b = go (b .rows) (b .vs) refl refl (b .allowed)
+skip : (today : ℕ) (all : Table) (r : Entry) (rs : Table) (at : ℕ) (s : List ℕ) (f : Fault) (p : ℕ) → r .optional ≡ true → (Wrong today all rs s f → Wrong today all (r ∷ rs) s f)
+    → First today all rs at s f p → First today all (r ∷ rs) at s f p
+skip today all r rs at s f p o k b = go (b .rows) (b .vs) refl refl (b .allowed)
   where
-    go : (rows : Table) (vs : Values) → b .rows ≡ rows → b .vs ≡ vs → Allowed today rows vs → First today all (r ∷ rs) at (x ∷ s) f p
-    go [] [] m n a = let z : p ≡ at + length (encode [] []) = b .place-is ∙ rw m in at-once today all (r ∷ rs) at x s f p k e (omega (arith, z))
+    go : (rows : Table) (vs : Values) → b .rows ≡ rows → b .vs ≡ vs → Allowed today rows vs → First today all (r ∷ rs) at s f p
+    go [] [] m n a =
+        let z : p ≡ at + length (encode [] []) = b .place-is ∙ rw m in
+        let e : b .later ≡ rs = sym (b .split ∙ rw m) in
+        at-once today all (r ∷ rs) at s f p (omega (arith, z)) (k (rw (m, e) at (b .wrong)))
     go [] (v ∷ vs) m n a = absurd a
     go (y ∷ ys) [] m n a = absurd a
     go (y ∷ ys) (v ∷ vs) m n a =
@@ -181,40 +146,35 @@ module _ (today : ℕ) (all : Table) where
         wrong = rw q (rw (drop-drop m (long (r .tag) + n) (x ∷ s), a) at (w .wrong));
       }
 
+  own : (r : Entry) (rs : Table) (x : ℕ) (s : List ℕ) → Bytes (x ∷ s) → tagHere all x s ≡ r .tag → {f : Fault}
+      → element (r .lengths) (r .rule) today (drop (long (r .tag)) (x ∷ s)) ≡ broken f → Wrong today all (r ∷ rs) (x ∷ s) f
+  own r rs x s b q {f} e =
+      in-row [] r rs refl q (λ h. h) (rw q (faulty-exact (r .lengths) (r .rule) today (drop (long (r .tag)) (x ∷ s)) (below-drop 256 (long (r .tag)) (x ∷ s) b) f .0 e))
+
   follow-fault : (at : ℕ) (x : Element) (k : ℕ → Parsed) {f : Fault} {p : ℕ} → follow at x k ≡ fault f p
-      → {P : Type 0} → (p ≡ at → P) → ((v : List ℕ) (n : ℕ) → x ≡ whole v n → k n ≡ fault f p → P) → P
+      → {P : Type 0} → (x ≡ broken f → p ≡ at → P) → ((v : List ℕ) (n : ℕ) → x ≡ whole v n → k n ≡ fault f p → P) → P
   follow-fault at (whole v n) k e here on = on v n refl (fault-of (some v) (k n) e)
-  follow-fault at (broken g) k e here on = here (place-of e)
+  follow-fault at (broken g) k e here on = here (ap broken (sym (fault-is e))) (place-of e)
 
   ended : (rest : Table) (at : ℕ) (f : Fault) (p : ℕ) → parse today all rest at [] ≡ fault f p → First today all rest at [] f p
-  ended rest at f p e =
-      let h = at-end today all at rest e in
-      record {
-        rows = [];
-        later = rest;
-        vs = [];
-        split = refl;
-        allowed = tt;
-        last = tt;
-        place-is = h .2 ∙ omega arith;
-        written = refl;
-        wrong = (h .0, h .1);
-      }
+  ended rest at f p e = let h = at-end today all at rest e in at-once today all rest at [] f p (h .2) (h .0, h .1)
 
   -- the fault that is read is the first one
-  pub first : (rest : Table) (at : ℕ) (s : List ℕ) → Bytes s → Part all rest → (f : Fault) (p : ℕ) → parse today all rest at s ≡ fault f p → First today all rest at s f p
-  first [] at [] b k f p e = ended [] at f p e
-  first [] at (x ∷ s) b k f p e = at-once today all [] at x s f p k e (place-of e)
-  first (r ∷ rs) at [] b k f p e = ended (r ∷ rs) at f p e
-  first (r ∷ rs) at (x ∷ s) b k f p e =
+  pub first : (rest : Table) (at : ℕ) (s : List ℕ) → Bytes s → (f : Fault) (p : ℕ) → parse today all rest at s ≡ fault f p → First today all rest at s f p
+  first [] at [] b f p e = ended [] at f p e
+  first [] at (x ∷ s) b f p e = at-once today all [] at (x ∷ s) f p (place-of e) (rw (fault-is e) (gone-wrong today all (tagHere all x s) _ [] refl))
+  first (r ∷ rs) at [] b f p e = ended (r ∷ rs) at f p e
+  first (r ∷ rs) at (x ∷ s) b f p e =
       elim (which (eqb (tagHere all x s) (r .tag))) [
         | inl q ↦
             follow-fault at (element (r .lengths) (r .rule) today (drop (long (r .tag)) (x ∷ s))) (λ n. parse today all rs (at + (long (r .tag) + n)) (drop (long (r .tag) + n) (x ∷ s))) (rw q at e)
-            (λ z. at-once today all (r ∷ rs) at x s f p k e z)
-            (λ v n w m. after-element r rs at x s b (eqb-true _ _ q) v n p w f (first rs (at + (long (r .tag) + n)) (drop (long (r .tag) + n) (x ∷ s)) (below-drop 256 (long (r .tag) + n) (x ∷ s) b) (next-part all r rs k) f p m))
+            (λ w z. at-once today all (r ∷ rs) at (x ∷ s) f p z (own r rs x s b (eqb-true _ _ q) w))
+            (λ v n w m. after-element r rs at x s b (eqb-true _ _ q) v n p w f (first rs (at + (long (r .tag) + n)) (drop (long (r .tag) + n) (x ∷ s)) (below-drop 256 (long (r .tag) + n) (x ∷ s) b) f p m))
         | inr q ↦
             elim (which (r .optional)) [
-              | inl o ↦ skip today all r rs at x s f p o k e (first rs at (x ∷ s) b (next-part all r rs k) f p (fault-of none (parse today all rs at (x ∷ s)) (rw (q, o) at e)))
-              | inr o ↦ at-once today all (r ∷ rs) at x s f p k e (place-of (rw (q, o) at e))
+              | inl o ↦ skip today all r rs at (x ∷ s) f p o (passing today all (tagHere all x s) _ r rs q o) (first rs at (x ∷ s) b f p (fault-of none (parse today all rs at (x ∷ s)) (rw (q, o) at e)))
+              | inr o ↦
+                  let z : fault (misplaced all rs (tagHere all x s)) at ≡ fault f p = rw (q, o) at e in
+                  at-once today all (r ∷ rs) at (x ∷ s) f p (place-of z) (rw (fault-is z) (missing today all (tagHere all x s) _ r rs q o))
             ]
       ]

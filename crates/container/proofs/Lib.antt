@@ -7,6 +7,7 @@ pub mod Lengthy
 pub mod Turn
 pub mod Ways
 pub mod Places
+pub mod Faults
 pub mod InOrder
 pub mod Walk
 pub mod Passing

@@ -1,33 +1,32 @@
 -- The first broken rule is the only one that can be named: bytes of which it is the first are read as that fault at that place. Assumes nothing.
 use Prim.Native.Nat.{ℕ, _+_, _≤_, _<_}
 use mathlib.Core.Logic.{_⊎_, inl, inr, _↔_}
-use mathlib.Core.Path.{_≡_, sym, ap, subst, _∙_}
-use mathlib.Core.Bool.{true, false, true≢false}
+use mathlib.Core.Path.{_≡_, refl, sym, ap, subst, _∙_}
+use mathlib.Core.Bool.{true, false, cond, true≢false}
 use mathlib.Core.Option.{Option, none, some}
 use mathlib.Core.List.{List, [], _∷_, _++_, append-assoc}
 use native.Mathlib.Omega.{arith}
-use lib.ListN.{length, take, drop, length-append, length-drop, take-append-drop}
-use lib.Seq.{drop-drop}
+use lib.ListN.{length, take, drop, length-append, take-append-drop}
 use lib.Dec.{eqb}
-use borrow.Author.Tests.{lt-leb, le-leb, eq-eqb, ne-eqb, eqb-false}
+use borrow.Author.Tests.{lt-leb, le-leb, eq-eqb, ne-eqb, eqb-true, eqb-false}
 use Rattle.laws.specs.Bytes.{Bytes}
 use Rattle.laws.proofs.Bases.{below-drop}
 use Rattle.laws.proofs.Cases.{which, not-so}
 use Rattle.lengths.specs.Length.{lengthBytes}
 use Rattle.dates.specs.Date.{IsDate, isDate}
 use Rattle.dates.proofs.Dates.{date-exact}
-use Rattle.kinds.specs.Tables.{Table, table, IsKind, isKind}
+use Rattle.kinds.specs.Tables.{Entry, Table, table, IsKind, isKind}
 use Rattle.verdicts.specs.declared.Fault.{Fault}
-use Rattle.verdicts.specs.declared.Fault.the-variants.{MissingRow}
+use Rattle.verdicts.specs.declared.Fault.the-variants.{UnknownTag, TagOrder, MissingRow}
 use Rattle.verdicts.specs.declared.Outcome.the-variants.{Broken}
 use Rattle.container.specs.Container.{Values, tagBytes, encode, outerTag, Allowed, largest}
-use Rattle.container.specs.Reading.{Parsed, values, fault, prepend, long, has, tagHere, parse, outer, parsed, outcomeOf}
-use Rattle.container.specs.InOrder.{Owed, Wrong, LastThere, First, Named, no-kind, no-date, too-large, outer-tag, outer-length, outer-end, in-element}
-use Rattle.container.proofs.Rows.{Distinct}
+use Rattle.container.specs.Reading.{Parsed, values, fault, prepend, broken, element, long, has, tagHere, parse, outer, parsed, outcomeOf}
+use Rattle.container.specs.InOrder.{Owed, not-in-table, not-to-come, passed-over, in-row, Wrong, LastThere, First, Named, no-kind, no-date, too-large, outer-tag, outer-length, outer-end, in-element}
+use Rattle.container.proofs.Rows.{Distinct, gone}
 use Rattle.container.proofs.Tags.{Tags, tags, distinct, begins}
 use Rattle.container.proofs.One.{fits-good}
 use Rattle.container.proofs.Exact.{Apart, skips, takes, size, bytes-front, bytes-back}
-use Rattle.container.proofs.InOrder.{in-order}
+use Rattle.container.proofs.Faults.{length-read, none-read, faulty-exact}
 use Rattle.container.proofs.Promise.{kind-exact, named}
 
 -- a fault that is judged is what was read
@@ -35,23 +34,68 @@ pub broken-fault : (x : Parsed) (f : Fault) (p : ℕ) → outcomeOf x ≡ Broken
 broken-fault (values vs) f p e = let z : _≡_ {A = ℕ} 0 1 = cc in absurd (omega arith)
 broken-fault (fault g q) f p e = cc
 
+-- a mandatory row is not the optional one
+later : (r : Entry) (rs : Table) → r .optional ≡ true → Owed (r ∷ rs) → Owed rs
+later r rs o (inl n) = absurd (true≢false (sym o ∙ n))
+later r rs o (inr h) = h
+
+has-mid : (before : Table) (r : Entry) (after : Table) → has (r .tag) (before ++ (r ∷ after)) ≡ true
+has-mid [] r after = rw (eq-eqb (r .tag) (r .tag) refl)
+has-mid (x ∷ xs) r after = elim (which (eqb (r .tag) (x .tag))) [
+  | inl q ↦ rw q
+  | inr q ↦ rw q (has-mid xs r after)
+]
+
 module _ (today : ℕ) (all : Table) where
   -- at the end of the bytes
   owing : (rest : Table) (at : ℕ) → Owed rest → parse today all rest at [] ≡ fault MissingRow at
   owing [] at h = absurd h
   owing (r ∷ rs) at h = elim (which (r .optional)) [
-    | inl o ↦ rw o (ap (prepend none) (owing rs at (later o h)))
+    | inl o ↦ rw o (ap (prepend none) (owing rs at (later r rs o h)))
     | inr o ↦ rw o
   ]
-    where
-      later : r .optional ≡ true → (r .optional ≡ false) ⊎ Owed rs → Owed rs
-      later o (inl n) = absurd (true≢false (sym o ∙ n))
-      later o (inr h) = h
+
+  -- up to the row of an element's tag: a mandatory row is missing there, or the element is at fault
+  module _ (f : Fault) (at b : ℕ) (s : List ℕ) (r : Entry) (after : Table) (z : tagHere all b s ≡ r .tag) where
+    abbrev Stops : Table → Type 0
+    Stops before = (Owed before × (f ≡ MissingRow)) ⊎ ((Owed before → ⊥) × (element (r .lengths) (r .rule) today (drop (long (r .tag)) (b ∷ s)) ≡ broken f))
+
+    onward : (x : Entry) (xs : Table) → x .optional ≡ true → Stops (x ∷ xs) → Stops xs
+    onward x xs o (inl (w, e)) = inl (later x xs o w, e)
+    onward x xs o (inr (n, e)) = inr (λ w. n (inr w), e)
+
+    owed : (x : Entry) (xs : Table) → x .optional ≡ false → Stops (x ∷ xs) → f ≡ MissingRow
+    owed x xs o (inl (w, e)) = e
+    owed x xs o (inr (n, e)) = absurd (n (inl o))
+
+    to-row : (before : Table) → Distinct (before ++ (r ∷ after)) → Stops before → parse today all (before ++ (r ∷ after)) at (b ∷ s) ≡ fault f at
+    to-row [] d (inl (w, e)) = absurd w
+    to-row [] d (inr (n, e)) = rw (eq-eqb _ _ z, e)
+    to-row (x ∷ xs) d c =
+        let h : has (tagHere all b s) (xs ++ (r ∷ after)) ≡ true = rw z (has-mid xs r after) in
+        elim (which (eqb (tagHere all b s) (x .tag))) [
+          | inl q ↦ absurd (true≢false (sym h ∙ rw (eqb-true (tagHere all b s) (x .tag) q) (d .0)))
+          | inr q ↦
+              elim (which (x .optional)) [
+                | inl o ↦ rw (q, o) (ap (prepend none) (to-row xs (d .1) (onward x xs o c)))
+                | inr o ↦ rw (q, o, h, owed x xs o c)
+              ]
+        ]
 
   module _ (f : Fault) where
-    here : (rest : Table) (at : ℕ) (s : List ℕ) → ((t : ℕ) → has t all ≡ false → has t rest ≡ false) → Wrong today all rest at s f → parse today all rest at s ≡ fault f at
-    here rest at [] k w = owing rest at (w .0) ∙ ap (λ (g : Fault). fault g at) (sym (w .1))
-    here rest at (b ∷ s) k w = broken-fault (parse today all rest at (b ∷ s)) f at (in-order today all at b s rest (k (tagHere all b s)) ∙ w)
+    none-to-come : (rest : Table) (at b : ℕ) (s : List ℕ) → has (tagHere all b s) rest ≡ false → f ≡ cond (has (tagHere all b s) all) TagOrder UnknownTag
+        → parse today all rest at (b ∷ s) ≡ fault f at
+    none-to-come rest at b s h e = broken-fault (parse today all rest at (b ∷ s)) f at (gone today all at b s rest h ∙ ap (λ (g : Fault). Broken g at) (sym e))
+
+    here : (rest : Table) (at : ℕ) (s : List ℕ) → Bytes s → Distinct rest → ((t : ℕ) → has t all ≡ false → has t rest ≡ false) → Wrong today all rest s f → parse today all rest at s ≡ fault f at
+    here rest at [] u d k w = owing rest at (w .0) ∙ ap (λ (g : Fault). fault g at) (sym (w .1))
+    here rest at (b ∷ s) u d k (not-in-table h e) = none-to-come rest at b s (k _ h) (rw h e)
+    here rest at (b ∷ s) u d k (not-to-come h g e) = none-to-come rest at b s g (rw h e)
+    here rest at (b ∷ s) u d k (passed-over before r after q z w e) =
+        rw q (to-row f at b s r after z before (rw q at d) (inl (w, e)))
+    here rest at (b ∷ s) u d k (in-row before r after q z n w) =
+        let g = faulty-exact (r .lengths) (r .rule) today (drop (long (r .tag)) (b ∷ s)) (below-drop 256 (long (r .tag)) (b ∷ s) u) f .1 (rw z at w) in
+        rw q (to-row f at b s r after z before (rw q at d) (inr (n, g)))
 
     -- elements of other rows begin with another tag
     other : (u : ℕ) (rows later : Table) (o : Option (List ℕ)) (vs : Values) (t : List ℕ) → Tags all rows → has u (rows ++ later) ≡ false → Allowed today rows (o ∷ vs) → LastThere (o ∷ vs)
@@ -73,11 +117,11 @@ module _ (today : ℕ) (all : Table) where
         ]
 
     back : (rows later : Table) (vs : Values) (at : ℕ) (t : List ℕ) → Tags all rows → Distinct (rows ++ later) → ((t : ℕ) → has t all ≡ false → has t later ≡ false)
-        → Allowed today rows vs → LastThere vs → Bytes (encode rows vs ++ t) → length (encode rows vs) < 65536 → Wrong today all later (at + length (encode rows vs)) t f
+        → Allowed today rows vs → LastThere vs → Bytes (encode rows vs ++ t) → length (encode rows vs) < 65536 → Wrong today all later t f
         → parse today all (rows ++ later) at (encode rows vs ++ t) ≡ fault f (at + length (encode rows vs))
     back [] later [] at t p d k a l b h w =
         let z : at + 0 ≡ at = omega arith in
-        rw z (here later at t k (rw z at w))
+        rw z (here later at t b d k w)
     back [] later (o ∷ vs) at t p d k a l b h w = absurd a
     back (r ∷ rs) later [] at t p d k a l b h w = absurd a
     back (r ∷ rs) later (none ∷ []) at t p d k a l b h w = absurd l
@@ -96,7 +140,7 @@ module _ (today : ℕ) (all : Table) where
         let z : at + length (tagBytes (r .tag) ++ (head ++ (v ++ rest))) ≡ at + (long (r .tag) + size today all v) + length rest = omega (arith, x, y, m) in
         rw (e, z)
         (takes today all r (rs ++ later) at v (rest ++ t) (p .0) (omega (arith, x, y, m)) (fits-good today r v (bytes-front v (rest ++ t) b₁) (a .0))
-        ∙ ap (prepend (some v)) (back rs later vs (at + (long (r .tag) + size today all v)) t (p .1) (d .1) k (a .1) l (bytes-back v (rest ++ t) b₁) (omega (arith, x, y, m)) (rw z at w)))
+        ∙ ap (prepend (some v)) (back rs later vs (at + (long (r .tag) + size today all v)) t (p .1) (d .1) k (a .1) l (bytes-back v (rest ++ t) b₁) (omega (arith, x, y, m)) w))
 
 -- ---- rows before and after
 
@@ -126,7 +170,7 @@ module _ (kind today : ℕ) (f : Fault) (p : ℕ) where
       ap (λ (x : Table). parse today (table kind) x at s) (h .split)
       ∙ ap (parse today (table kind) (h .rows ++ h .later) at) q
       ∙ back today (table kind) f (h .rows) (h .later) (h .vs) at t g d (λ u z. has-later u (h .rows) (h .later) (sym (ap (has u) (h .split)) ∙ z)) (h .allowed) (h .last)
-      (rw q at b) n (rw (h .place-is) at (h .wrong))
+      (rw q at b) n (h .wrong)
       ∙ ap (fault f) (sym (h .place-is))
 
   passed : (c : List ℕ) → IsKind kind → IsDate today → length c ≤ largest → outer kind today c ≡ fault f p → parsed kind today c ≡ fault f p
@@ -147,16 +191,17 @@ module _ (kind today : ℕ) (f : Fault) (p : ℕ) where
   named-back [] b (outer-tag k d l h e z) = passed [] k d l (rw (e, z))
   named-back (t ∷ s) b (outer-tag k d l h e z) = passed (t ∷ s) k d l (rw (ne-eqb t (outerTag kind) (λ q. h (ap (λ (x : ℕ). x ∷ []) q)), e, z))
   named-back [] b (outer-length k d l h r e z) = absurd (no-start h)
-  named-back (t ∷ s) b (outer-length k d l h r e z) = passed (t ∷ s) k d l (rw (eq-eqb t (outerTag kind) (tag-of t s h), r, e, z))
-  named-back [] b (outer-end k d l h n r m e z) = absurd (no-start h)
-  named-back (t ∷ s) b (outer-end k d l h n r m e z) =
-      passed (t ∷ s) k d l (rw (eq-eqb t (outerTag kind) (tag-of t s h), r, ne-eqb (length s) (n .width + n .number) (λ q. m (omega (arith, q))), e, z))
-  named-back [] b (in-element k d l h n r m w) = absurd (no-start h)
-  named-back (t ∷ s) b (in-element k d l h n r m w) =
+  named-back (t ∷ s) b (outer-length k d l h r e z) = passed (t ∷ s) k d l (rw (eq-eqb t (outerTag kind) (tag-of t s h), none-read s (b .1) .1 r, e, z))
+  named-back [] b (outer-end k d l h n r c m e z) = absurd (no-start h)
+  named-back (t ∷ s) b (outer-end k d l h n r c m e z) =
+      passed (t ∷ s) k d l (rw (eq-eqb t (outerTag kind) (tag-of t s h), length-read n r c .0, ne-eqb (length s) (length (lengthBytes n) + n) (λ q. m (omega (arith, q, ap length (c .1), length-append (lengthBytes n) r))), e, z))
+  named-back [] b (in-element k d l h n r c m w) = absurd (no-start h)
+  named-back (t ∷ s) b (in-element k d l h n r c m w) =
+      let y = length-read n r c in
+      let x = length-append (lengthBytes n) r in
       passed (t ∷ s) k d l
-      (rw (eq-eqb t (outerTag kind) (tag-of t s h), r, eq-eqb (length s) (n .width + n .number) (omega (arith, m)))
-      (in-elements (1 + n .width) (drop (n .width) s) (below-drop 256 (n .width) s (b .1)) (omega (arith, length-drop (n .width) s, l))
-      (subst (λ (x : List ℕ). First today (table kind) (table kind) (1 + n .width) x f p) (sym (drop-drop (n .width) 1 (t ∷ s))) w)))
+      (rw (eq-eqb t (outerTag kind) (tag-of t s h), y .0, eq-eqb (length s) (length (lengthBytes n) + n) (omega (arith, ap length (c .1), x)), y .1)
+      (in-elements (1 + length (lengthBytes n)) r (bytes-back (lengthBytes n) r (rw (c .1) at (b .1))) (omega (arith, ap length (c .1), x, l)) w))
 
 -- a fault is read exactly where it is the first that is broken
 pub named-exact : (kind today : ℕ) (c : List ℕ) → Bytes c → (f : Fault) (p : ℕ) → (parsed kind today c ≡ fault f p) ↔ Named kind today c f p

@@ -8,9 +8,9 @@ use mathlib.Core.Option.{Option, none, some}
 use mathlib.Core.List.{List, [], _∷_, _++_}
 use native.Mathlib.Omega.{arith}
 use lib.ListN.{length, drop, length-append, length-drop, take-append-drop}
-use lib.Seq.{drop-append-seam, drop-drop}
+use lib.Seq.{drop-append-seam}
 use lib.Dec.{leb, eqb}
-use borrow.Author.Tests.{le-leb, leb-true, leb-false, eq-eqb, eqb-true}
+use borrow.Author.Tests.{le-leb, leb-true, leb-false, eq-eqb, eqb-true, eqb-false}
 use Rattle.laws.specs.Bytes.{Bytes}
 use Rattle.laws.proofs.Bases.{below-drop}
 use Rattle.laws.proofs.Cases.{which, and-true, and-is}
@@ -28,6 +28,7 @@ use Rattle.container.specs.Reading.{Parsed, values, fault, inner, outer,
 use Rattle.container.proofs.Tags.{distinct, tags}
 use Rattle.container.proofs.Exact.{no-values, sound, complete}
 use Rattle.container.specs.InOrder.{Named, no-kind, no-date, too-large, outer-tag, outer-length, outer-end, in-element}
+use Rattle.container.proofs.Faults.{read-length, none-read}
 use Rattle.container.proofs.InOrder.{place-of, fault-is, first}
 use Rattle.verdicts.specs.declared.Fault.{Fault}
 use Rattle.verdicts.specs.declared.Fault.the-variants.{UnknownKind, NoDate, LargeContainer, OuterTag, Overrun}
@@ -130,15 +131,18 @@ exactly-when kind today c b =
 module _ (kind today : ℕ) (f : Fault) (p : ℕ) (ki : IsKind kind) (di : IsDate today) where
   in-inner : (o : Option Spelt) (t : ℕ) (s : List ℕ) → length (t ∷ s) ≤ largest → t ≡ outerTag kind → readLength s ≡ o → Bytes s → inner today (table kind) o s ≡ fault f p
       → Named kind today (t ∷ s) f p
-  in-inner none t s l h r b e = outer-length ki di l (ap (λ (x : ℕ). x ∷ []) h) r (fault-is e) (place-of e)
+  in-inner none t s l h r b e = outer-length ki di l (ap (λ (x : ℕ). x ∷ []) h) (none-read s b .0 r) (fault-is e) (place-of e)
   in-inner (some n) t s l h r b e =
+      let c = read-length s b n r in
+      let m = length-drop (n .width) s in
       elim (which (eqb (length s) (n .width + n .number))) [
         | inl q ↦
-            in-element ki di l (ap (λ (x : ℕ). x ∷ []) h) n r (omega (arith, eqb-true (length s) (n .width + n .number) q))
-            (rw (← drop-drop (n .width) 1 (t ∷ s)) (first today (table kind) (table kind) (1 + n .width) (drop (n .width) s) (below-drop 256 (n .width) s b) (λ t h. h) f p (rw q at e)))
+            in-element ki di l (ap (λ (x : ℕ). x ∷ []) h) (n .number) (drop (n .width) s) (c .0) (omega (arith, m, eqb-true (length s) (n .width + n .number) q))
+            (rw (← c .1) (first today (table kind) (table kind) (1 + n .width) (drop (n .width) s) (below-drop 256 (n .width) s b) f p (rw q at e)))
         | inr q ↦
             let z : fault Overrun 0 ≡ fault f p = rw q at e in
-            outer-end ki di l (ap (λ (x : ℕ). x ∷ []) h) n r (λ m. true≢false (sym (eq-eqb (length s) (n .width + n .number) (omega (arith, m))) ∙ q)) (fault-is z) (place-of z)
+            outer-end ki di l (ap (λ (x : ℕ). x ∷ []) h) (n .number) (drop (n .width) s) (c .0)
+            (λ g. eqb-false (length s) (n .width + n .number) q (omega (arith, m, g))) (fault-is z) (place-of z)
       ]
 
   in-outer : (c : List ℕ) → length c ≤ largest → Bytes c → outer kind today c ≡ fault f p → Named kind today c f p

@@ -1,63 +1,57 @@
--- 01, "Order": the elements one by one, in the order in which 01 names the numbers, and the first broken rule. `proofs/InOrder.antt` and
--- `proofs/Promise.antt` show that this is what is read and named.
+-- 01, "Order": what is wrong with an element, in the order in which 01 names the numbers, and the first broken rule. `proofs/Named.antt` shows that
+-- this is what is read, and nothing else.
 use Prim.Native.Nat.{ℕ, _+_, _<_, _≤_}
 use mathlib.Core.Logic.{_⊎_}
 use mathlib.Core.Path.{_≡_}
-use mathlib.Core.Bool.{Bool, true, false, cond, not, _||_}
+use mathlib.Core.Bool.{true, false}
 use mathlib.Core.Option.{none, some}
 use mathlib.Core.List.{List, [], _∷_, _++_}
 use lib.ListN.{length, take, drop}
-use lib.Dec.{eqb}
 use Rattle.dates.specs.Date.{IsDate}
-use Rattle.lengths.specs.Length.{Spelt, readLength}
-use Rattle.kinds.specs.Tables.{Entry, Table, table, IsKind}
+use Rattle.lengths.specs.Length.{lengthBytes}
+use Rattle.kinds.specs.Tables.{Lengths, Permitted, Entry, Table, table, IsKind}
+use Rattle.kinds.specs.declared.ValueRule.{ValueRule}
+use Rattle.rules.specs.Rules.{Violates}
 use Rattle.verdicts.specs.declared.Fault.{Fault}
-use Rattle.verdicts.specs.declared.Fault.the-variants.{UnknownKind, NoDate, LargeContainer, OuterTag, LengthForm, Overrun, UnknownTag, TagOrder, MissingRow}
-use Rattle.verdicts.specs.declared.Outcome.{Outcome}
-use Rattle.verdicts.specs.declared.Outcome.the-variants.{Broken}
+use Rattle.verdicts.specs.declared.Fault.the-variants.{UnknownKind, NoDate, LargeContainer, OuterTag, LengthForm, Overrun, UnknownTag, TagOrder, MissingRow, ElementLength}
 use Rattle.container.specs.Container.{Values, encode, outerTag, Allowed, largest}
-use Rattle.container.specs.Reading.{Element, whole, broken, element, long, has, tagHere, parse, outcomeOf}
+use Rattle.container.specs.Reading.{long, has, tagHere}
 
--- a tag's row among rows to come: whether a mandatory row stands before it, the row, and the rows after it
-pub data Place : Type 0 where
-  nowhere : Place
-  found : Bool → Entry → Table → Place
+-- ---- an element
 
-abbrev pub beyond : Bool → Place → Place
-beyond optional nowhere = nowhere
-beyond optional (found missed r later) = found (not optional || missed) r later
+-- at the front of s stands the length n, and r follows it
+abbrev pub IsLength : List ℕ → ℕ → List ℕ → Type 0
+IsLength s n r = (n < 65536) × (s ≡ lengthBytes n ++ r)
 
-abbrev pub locate : ℕ → Table → Place
-locate t [] = nowhere
-locate t (r ∷ rs) = cond (eqb t (r .tag)) (found false r rs) (beyond (r .optional) (locate t rs))
+-- "11, 12, 16, its value's rules in field order": what is wrong with an element whose row has the lengths l and this rule, given the bytes s after its tag.
+-- No length stands there; or one does, and fewer bytes follow than it says; or as many do, and a value may not be so long; or it may, and breaks its rule
+pub data Faulty (l : Lengths) (rule : ValueRule) (today : ℕ) (s : List ℕ) (f : Fault) : Type 0 where
+  no-length : ((n : ℕ) (r : List ℕ) → IsLength s n r → ⊥) → f ≡ LengthForm → Faulty l rule today s f
+  past-end : (n : ℕ) (r : List ℕ) → IsLength s n r → length r < n → f ≡ Overrun → Faulty l rule today s f
+  not-permitted : (v r : List ℕ) → IsLength s (length v) (v ++ r) → (Permitted l (length v) → ⊥) → f ≡ ElementLength → Faulty l rule today s f
+  bad-value : (v r : List ℕ) → IsLength s (length v) (v ++ r) → Permitted l (length v) → Violates rule today v f → Faulty l rule today s f
 
--- "then each element: 13, 14, 15, 11, 12, 16, its value's rules in field order"; "Place is the offset of the element's tag". The element has the tag t,
--- stands at the offset `at` with the bytes s, and the rows `rest` of the table `all` are to come; `element` gives 11, 12, 16 and the value's rules
-module _ (today : ℕ) (all : Table) (at : ℕ) (s : List ℕ) (t : ℕ) where
-  abbrev pub onward : Entry → Table → Element → Outcome
-  onward r later (broken f) = Broken f at
-  onward r later (whole v n) = outcomeOf (parse today all later (at + (long (r .tag) + n)) (drop (long (r .tag) + n) s))
-
-  abbrev pub placed : Place → Outcome
-  placed nowhere = Broken TagOrder at
-  placed (found true r later) = Broken MissingRow at
-  placed (found false r later) = onward r later (element (r .lengths) (r .rule) today (drop (long (r .tag)) s))
-
-  abbrev pub inOrder : Table → Outcome
-  inOrder rest = cond (has t all) (placed (locate t rest)) (Broken UnknownTag at)
-
--- ---- the first broken rule
-
--- a mandatory row is among the rows to come
+-- a mandatory row is among some rows
 abbrev pub Owed : Table → Type 0
 Owed [] = ⊥
 Owed (r ∷ rs) = (r .optional ≡ false) ⊎ Owed rs
 
+-- "then each element: 13, 14, 15": what is wrong with an element that has the tag t, and the bytes s after it, while the rows `rest` of the table `all` are
+-- to come. The table has no row with this tag; or it has, but none to come; or a mandatory row stands before it; or none does, and the element is faulty
+pub data AtFault (today : ℕ) (all rest : Table) (t : ℕ) (s : List ℕ) (f : Fault) : Type 0 where
+  not-in-table : has t all ≡ false → f ≡ UnknownTag → AtFault today all rest t s f
+  not-to-come : has t all ≡ true → has t rest ≡ false → f ≡ TagOrder → AtFault today all rest t s f
+  passed-over : (before : Table) (r : Entry) (after : Table) → rest ≡ before ++ (r ∷ after) → t ≡ r .tag → Owed before → f ≡ MissingRow → AtFault today all rest t s f
+  in-row : (before : Table) (r : Entry) (after : Table) → rest ≡ before ++ (r ∷ after) → t ≡ r .tag → (Owed before → ⊥) → Faulty (r .lengths) (r .rule) today s f
+      → AtFault today all rest t s f
+
+-- ---- the first broken rule
+
 -- with the rows `rest` of the table `all` to come, the bytes s break the rule f at once: they end and a mandatory row is due, or the element that they
 -- begin with is at fault
-abbrev pub Wrong : ℕ → Table → Table → ℕ → List ℕ → Fault → Type 0
-Wrong today all rest at [] f = Owed rest × (f ≡ MissingRow)
-Wrong today all rest at (b ∷ s) f = inOrder today all at (b ∷ s) (tagHere all b s) rest ≡ Broken f at
+abbrev pub Wrong : ℕ → Table → Table → List ℕ → Fault → Type 0
+Wrong today all rest [] f = Owed rest × (f ≡ MissingRow)
+Wrong today all rest (b ∷ s) f = let t = tagHere all b s in AtFault today all rest t (drop (long t) (b ∷ s)) f
 
 -- the last of some values is there
 abbrev pub LastThere : Values → Type 0
@@ -77,7 +71,7 @@ pub record First (today : ℕ) (all rest : Table) (at : ℕ) (s : List ℕ) (f :
   pub last : LastThere vs
   pub place-is : place ≡ at + length (encode rows vs)
   pub written : take (length (encode rows vs)) s ≡ encode rows vs
-  pub wrong : Wrong today all later place (drop (length (encode rows vs)) s) f
+  pub wrong : Wrong today all later (drop (length (encode rows vs)) s) f
 
 -- "Check: 1, 2, 4, then outer 10, 11, 12 (place 0), then each element": the first broken rule of the bytes c, and its place
 pub data Named (kind today : ℕ) (c : List ℕ) (f : Fault) (place : ℕ) : Type 0 where
@@ -85,9 +79,9 @@ pub data Named (kind today : ℕ) (c : List ℕ) (f : Fault) (place : ℕ) : Typ
   no-date : IsKind kind → (IsDate today → ⊥) → f ≡ NoDate → place ≡ 0 → Named kind today c f place
   too-large : IsKind kind → IsDate today → largest < length c → f ≡ LargeContainer → place ≡ 0 → Named kind today c f place
   outer-tag : IsKind kind → IsDate today → length c ≤ largest → (take 1 c ≡ outerTag kind ∷ [] → ⊥) → f ≡ OuterTag → place ≡ 0 → Named kind today c f place
-  outer-length : IsKind kind → IsDate today → length c ≤ largest → take 1 c ≡ outerTag kind ∷ [] → readLength (drop 1 c) ≡ none → f ≡ LengthForm → place ≡ 0
-      → Named kind today c f place
-  outer-end : IsKind kind → IsDate today → length c ≤ largest → take 1 c ≡ outerTag kind ∷ [] → (n : Spelt) → readLength (drop 1 c) ≡ some n
-      → (length c ≡ 1 + n .width + n .number → ⊥) → f ≡ Overrun → place ≡ 0 → Named kind today c f place
-  in-element : IsKind kind → IsDate today → length c ≤ largest → take 1 c ≡ outerTag kind ∷ [] → (n : Spelt) → readLength (drop 1 c) ≡ some n
-      → length c ≡ 1 + n .width + n .number → First today (table kind) (table kind) (1 + n .width) (drop (1 + n .width) c) f place → Named kind today c f place
+  outer-length : IsKind kind → IsDate today → length c ≤ largest → take 1 c ≡ outerTag kind ∷ [] → ((n : ℕ) (r : List ℕ) → IsLength (drop 1 c) n r → ⊥)
+      → f ≡ LengthForm → place ≡ 0 → Named kind today c f place
+  outer-end : IsKind kind → IsDate today → length c ≤ largest → take 1 c ≡ outerTag kind ∷ [] → (n : ℕ) (r : List ℕ) → IsLength (drop 1 c) n r
+      → (length r ≡ n → ⊥) → f ≡ Overrun → place ≡ 0 → Named kind today c f place
+  in-element : IsKind kind → IsDate today → length c ≤ largest → take 1 c ≡ outerTag kind ∷ [] → (n : ℕ) (r : List ℕ) → IsLength (drop 1 c) n r
+      → length r ≡ n → First today (table kind) (table kind) (1 + length (lengthBytes n)) r f place → Named kind today c f place

@@ -1,5 +1,5 @@
 -- A container read: its values, or the first rule that it breaks and its place. `proofs/` shows that values are read exactly where the container
--- conforms (`Exact`), and that faults come in 01's order (`InOrder`).
+-- conforms (`Promise`), and a fault exactly where it is the first broken rule (`Named`).
 use Prim.Native.Nat.{ℕ, _+_}
 use mathlib.Core.Bool.{Bool, true, false, cond, _&&_}
 use mathlib.Core.Option.{Option, none, some}

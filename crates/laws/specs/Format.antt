@@ -2,7 +2,7 @@
 -- which may hang on what was read.
 use Prim.Native.Nat.{ℕ, _+_, _^_, _<_, _≤_}
 use mathlib.Core.Path.{_≡_}
-use mathlib.Core.Logic.{_↔_}
+use mathlib.Core.Logic.{_↔_, _⊎_}
 use mathlib.Core.Bool.{Bool, true, cond, _&&_}
 use mathlib.Core.List.{List, [], _++_}
 use lib.ListN.{length}
@@ -20,11 +20,27 @@ pub data Format (X : Type 0) : Type 1 where
   num : ℕ → Rule ℕ → X → (ℕ → Format X) → Format X
   raw : ℕ → Rule (List ℕ) → X → (List ℕ → Format X) → Format X
 
+-- at the front of s stands a field of w bytes that keeps its rule, and r follows it: a number, or the bytes v
+abbrev pub IsNumber : ℕ → Rule ℕ → List ℕ → ℕ → List ℕ → Type 0
+IsNumber w p s n r = (n < 256 ^ w) × (p .says n) × (s ≡ number w n ++ r)
+
+abbrev pub IsPart : ℕ → Rule (List ℕ) → List ℕ → List ℕ → List ℕ → Type 0
+IsPart w p s v r = (length v ≡ w) × (p .says v) × (s ≡ v ++ r)
+
 -- bytes are laid out so: there are numbers and parts that keep their rules, these are their bytes in order, and nothing follows
 abbrev pub Laid : {X : Type 0} → Format X → List ℕ → Type 0
 Laid (end x) s = s ≡ []
-Laid (num w p x k) s = (n : ℕ) × (r : List ℕ) × (n < 256 ^ w) × (p .says n) × (s ≡ number w n ++ r) × Laid (k n) r
-Laid (raw w p x k) s = (v : List ℕ) × (r : List ℕ) × (length v ≡ w) × (p .says v) × (s ≡ v ++ r) × Laid (k v) r
+Laid (num w p x k) s = (n : ℕ) × (r : List ℕ) × IsNumber w p s n r × Laid (k n) r
+Laid (raw w p x k) s = (v : List ℕ) × (r : List ℕ) × IsPart w p s v r × Laid (k v) r
+
+-- the first rule that bytes break has the fault f: no field that keeps its rule stands where one is due, or one does and the first broken rule is
+-- further on; at the end, bytes are left over. A field that the end of the bytes cuts short breaks its own rule
+abbrev pub FirstBroken : {X : Type 0} → Format X → List ℕ → X → Type 0
+FirstBroken (end x) s f = (s ≡ [] → ⊥) × (f ≡ x)
+FirstBroken (num w p x k) s f =
+    (((n : ℕ) (r : List ℕ) → IsNumber w p s n r → ⊥) × (f ≡ x)) ⊎ ((n : ℕ) × (r : List ℕ) × IsNumber w p s n r × FirstBroken (k n) r f)
+FirstBroken (raw w p x k) s f =
+    (((v : List ℕ) (r : List ℕ) → IsPart w p s v r → ⊥) × (f ≡ x)) ⊎ ((v : List ℕ) × (r : List ℕ) × IsPart w p s v r × FirstBroken (k v) r f)
 
 -- the rules and the tests of a table agree, on all that a field can hold after fields that kept their rules
 abbrev pub Agrees : {X : Type 0} → Format X → Type 0
@@ -37,11 +53,12 @@ pub data Judged (X : Type 0) : Type 0 where
   kept : Judged X
   breaks : X → Judged X
 
--- the judge goes through the table once, from an offset on; the order of the table is the order of the rules
+-- the judge goes through the table once, from an offset on; the order of the table is the order of the rules. What is read past the end of the bytes is
+-- shorter than the field and may pass its test, so the judge sees first that the field is whole
 abbrev pub judge : {X : Type 0} → Format X → ℕ → List ℕ → Judged X
 judge (end x) at s = cond (eqb at (length s)) kept (breaks x)
-judge (num w p x k) at s = cond (p .test (field s at w)) (judge (k (field s at w)) (at + w) s) (breaks x)
-judge (raw w p x k) at s = cond (p .test (part s at w)) (judge (k (part s at w)) (at + w) s) (breaks x)
+judge (num w p x k) at s = cond (leb (at + w) (length s) && p .test (field s at w)) (judge (k (field s at w)) (at + w) s) (breaks x)
+judge (raw w p x k) at s = cond (leb (at + w) (length s) && p .test (part s at w)) (judge (k (part s at w)) (at + w) s) (breaks x)
 
 -- ---- the usual rules
 

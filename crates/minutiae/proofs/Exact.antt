@@ -12,9 +12,9 @@ use lib.Dec.{leb, eqb, leb·zero}
 use borrow.Author.Tests.{le-leb, leb-true, eq-eqb, eqb-true}
 use Rattle.laws.specs.Bytes.{Bytes}
 use Rattle.laws.specs.Layout.{field}
-use Rattle.laws.specs.Format.{Format, end, kept, breaks, judge}
+use Rattle.laws.specs.Format.{Format, end, kept, breaks}
 use Rattle.laws.proofs.Cases.{and-true}
-use Rattle.laws.proofs.Formats.{inside, format-exact, cond-and, kept-if}
+use Rattle.laws.proofs.Formats.{inside, format-exact, skim, skim-keeps, cond-and, kept-if}
 use Rattle.minutiae.specs.Minutiae.{points, view, minutiae, IsMinutiae}
 use Rattle.minutiae.specs.Judged.{pointHolds, pointsHold, viewHead, extent, recordHead, isMinutiae}
 use Rattle.minutiae.specs.declared.Extent.the-variants.{Takes}
@@ -23,7 +23,7 @@ use Rattle.minutiae.proofs.Tested.{view-told, record-told}
 use Rattle.minutiae.proofs.Agreed.{minutiae-agrees}
 
 points-judged : (m : ℕ) (k : Format (Unit {0})) (at : ℕ) (d : List ℕ)
-    → judge (points m k) at d ≡ cond (pointsHold m (drop at d)) (judge k (at + 6 * m) d) (breaks tt)
+    → skim (points m k) at d ≡ cond (pointsHold m (drop at d)) (skim k (at + 6 * m) d) (breaks tt)
 unfolding pointsHold pointHolds
 points-judged zero k at d = let z : at + 6 * 0 ≡ at = omega arith in rw z
 points-judged (suc m) k at d =
@@ -41,7 +41,7 @@ viewed at d =
     viewHead (drop at d) && (leb (count at d) 128 && (pointsHold (count at d) (drop (at + 4) d) && eqb (field d (at + 4 + 6 * count at d) 2) 0))
 
 view-judged : (k : Format (Unit {0})) (at : ℕ) (d : List ℕ)
-    → judge (view k) at d ≡ cond (viewed at d) (judge k (at + 4 + 6 * count at d + 2) d) (breaks tt)
+    → skim (view k) at d ≡ cond (viewed at d) (skim k (at + 4 + 6 * count at d + 2) d) (breaks tt)
 unfolding viewHead
 view-judged k at d =
     let a : at + 1 + 1 ≡ at + 2 = omega arith in
@@ -49,12 +49,12 @@ view-judged k at d =
     let c : at + 3 + 1 ≡ at + 4 = omega arith in
     simp (a, b, c, points-judged, drop-drop, add-zero, leb·zero, cond-and)
 
-record-judged : (d : List ℕ) → judge (minutiae (length d)) 0 d ≡ cond (recordHead d) (judge (view (view (end tt))) 26 d) (breaks tt)
+record-judged : (d : List ℕ) → skim (minutiae (length d)) 0 d ≡ cond (recordHead d) (skim (view (view (end tt))) 26 d) (breaks tt)
 unfolding recordHead
 record-judged d = simp cond-and
 
 -- a view that is taken, in the table's terms
-taken : (k : Format (Unit {0})) (at : ℕ) (d : List ℕ) (n : ℕ) → extent (drop at d) ≡ Takes n → judge k (at + n) d ≡ kept → judge (view k) at d ≡ kept
+taken : (k : Format (Unit {0})) (at : ℕ) (d : List ℕ) (n : ℕ) → extent (drop at d) ≡ Takes n → skim k (at + n) d ≡ kept → skim (view k) at d ≡ kept
 taken k at d n e r =
     let t = view-told (drop at d) e in
     let m : ℕ = count at d in
@@ -67,18 +67,18 @@ taken k at d n e r =
     let w : at + 4 + 6 * m + 2 ≡ at + n = omega (arith, rw c at (t .size)) in
     rw (view-judged k at d, t .head, le-leb m 128 few, points, eq-eqb _ _ zeros, w, r)
 
-true-kept : (d : List ℕ) → isMinutiae d ≡ true → judge (minutiae (length d)) 0 d ≡ kept
+true-kept : (d : List ℕ) → isMinutiae d ≡ true → skim (minutiae (length d)) 0 d ≡ kept
 true-kept d e =
     let t = record-told d e in
-    let ends : judge {X = Unit {0}} (end tt) (26 + t .n + t .m) d ≡ kept = rw (eq-eqb _ _ (t .whole)) in
+    let ends : skim {X = Unit {0}} (end tt) (26 + t .n + t .m) d ≡ kept = rw (eq-eqb _ _ (t .whole)) in
     rw (record-judged, t .head, taken (view (end tt)) 26 d (t .n) (t .first) (taken (end tt) (26 + t .n) d (t .m) (t .second) ends))
 
 -- and back
-given : (k : Format (Unit {0})) (at : ℕ) (d : List ℕ) → judge (view k) at d ≡ kept
-    → (n : ℕ) × (extent (drop at d) ≡ Takes n) × (judge k (at + n) d ≡ kept)
+given : (k : Format (Unit {0})) (at : ℕ) (d : List ℕ) → skim (view k) at d ≡ kept
+    → (n : ℕ) × (extent (drop at d) ≡ Takes n) × (skim k (at + n) d ≡ kept)
 given k at d e =
     let m : ℕ = count at d in
-    let j = kept-if (viewed at d) (judge k (at + 4 + 6 * m + 2) d) tt (sym (view-judged k at d) ∙ e) in
+    let j = kept-if (viewed at d) (skim k (at + 4 + 6 * m + 2) d) tt (sym (view-judged k at d) ∙ e) in
     let a = and-true (viewHead (drop at d)) _ (j .0) in
     let b = and-true (leb m 128) _ (a .1) in
     let p = and-true (pointsHold m (drop (at + 4) d)) _ (b .1) in
@@ -93,9 +93,9 @@ given k at d e =
     let points : true ≡ pointsHold m (drop 4 (drop at d)) = rw drop-drop (sym (p .0)) in
     (6 + 6 * m, sym (takes (drop at d) (omega arith) (sym (a .0)) m c few l points zeros), rw w at (j .1))
 
-kept-true : (d : List ℕ) → judge (minutiae (length d)) 0 d ≡ kept → isMinutiae d ≡ true
+kept-true : (d : List ℕ) → skim (minutiae (length d)) 0 d ≡ kept → isMinutiae d ≡ true
 kept-true d e =
-    let a = kept-if (recordHead d) (judge (view (view (end tt))) 26 d) tt (sym (record-judged d) ∙ e) in
+    let a = kept-if (recordHead d) (skim (view (view (end tt))) 26 d) tt (sym (record-judged d) ∙ e) in
     let v = given (view (end tt)) 26 d (a .1) in
     let u = given (end tt) (26 + v .0) d (v .2) in
     let l = eqb-true (26 + v .0 + u .0) (length d) (kept-if (eqb (26 + v .0 + u .0) (length d)) kept tt (u .2) .0) in
@@ -104,5 +104,7 @@ kept-true d e =
 -- the test says that these bytes are a minutiae record exactly when they are one
 pub minutiae-exact : (d : List ℕ) → Bytes d → (isMinutiae d ≡ true) ↔ IsMinutiae d
 minutiae-exact d b =
-    let x = format-exact (minutiae (length d)) (minutiae-agrees (length d)) d b in
-    (λ e. x .0 (true-kept d e), λ l. kept-true d (x .1 l))
+    let f = minutiae (length d) in
+    let x = format-exact f (minutiae-agrees (length d)) d b in
+    let k = skim-keeps f 0 d in
+    (λ e. x .0 (k .1 (true-kept d e)), λ l. kept-true d (k .0 (x .1 l)))

@@ -1,4 +1,5 @@
--- A value's test answers Kept exactly where the value keeps the rule in the documents' words. Assumes nothing.
+-- A value's test answers Kept exactly where the value keeps the rule in the documents' words, and a fault exactly where it breaks it with that fault.
+-- Assumes nothing.
 use Prim.Native.Nat.{ℕ}
 use mathlib.Core.Path.{_≡_, refl, sym, ap, _∙_}
 use mathlib.Core.Logic.{_↔_}
@@ -7,10 +8,13 @@ use mathlib.Core.List.{List}
 use native.Mathlib.Omega.{arith}
 use lib.ListN.{length}
 use Rattle.laws.specs.Bytes.{Bytes}
+use Rattle.laws.specs.Tests.{same}
 use Rattle.laws.specs.Format.{Judged, kept, breaks, judge}
 use Rattle.laws.proofs.Cases.{same-exact}
 use Rattle.verdicts.specs.Verdicts.{unless, ruled}
 use Rattle.verdicts.specs.declared.Fault.{Fault}
+use Rattle.verdicts.specs.declared.Fault.the-variants.{BadFascn, BadUuid, BadDate, BadFixed, BadText}
+use Rattle.verdicts.specs.declared.Rule.{Rule}
 use Rattle.verdicts.specs.declared.Rule.the-variants.{Kept, Breaks}
 use Rattle.kinds.specs.declared.ValueRule.{ValueRule}
 use Rattle.kinds.specs.declared.ValueRule.the-variants.{Free, Fascn, Uuid, Expiry, Model, Application, Policy, Text, Date, Fingers, Face}
@@ -19,11 +23,13 @@ use Rattle.dates.specs.declared.Date.{Date as TextDate}
 use Rattle.dates.specs.declared.Date.the-variants.{Is, Not}
 use Rattle.dates.proofs.Dates.{text-exact}
 use Rattle.dates.proofs.Windows.{window-exact}
+use Rattle.fascn.specs.Reading.{isFascn}
 use Rattle.fascn.proofs.Codec.{fascn-exact}
+use Rattle.plain.specs.Plain.{isUuid, isPolicy, isText}
 use Rattle.plain.proofs.Exact.{uuid-exact, policy-exact, text-exact as printed-exact}
 use Rattle.cbeff.specs.Header.{header, fingers, face}
-use Rattle.cbeff.proofs.Exact.{fingers-exact, face-exact}
-use Rattle.rules.specs.Rules.{model, application, Keeps, expires, dated, ruleOf}
+use Rattle.cbeff.proofs.Exact.{fingers-exact, face-exact, first-broken-exact}
+use Rattle.rules.specs.Rules.{model, application, Keeps, Violates, expires, dated, ruleOf}
 
 no-kept : {f : Fault} → Breaks f ≡ Kept → ⊥
 no-kept e = let z : _≡_ {A = ℕ} 0 1 = cc in omega arith
@@ -72,3 +78,44 @@ value-exact Text today v b = by-test _ _ (printed-exact v)
 value-exact Date today v b = by-date v (dateOf v) refl
 value-exact Fingers today v b = by-judge (judge (header fingers (length v)) 0 v) (fingers-exact v b)
 value-exact Face today v b = by-judge (judge (header face (length v)) 0 v) (face-exact v b)
+
+-- ---- a broken rule
+
+-- an answer that knows one fault
+abbrev Only : Fault → Rule → Type 0
+Only x Kept = Unit {0}
+Only x (Breaks f) = f ≡ x
+
+one-fault : {P : Type 0} (x f : Fault) (r : Rule) → Only x r → ((r ≡ Kept) ↔ P) → (r ≡ Breaks f) ↔ ((P → ⊥) × (f ≡ x))
+one-fault x f Kept o p = (λ e. absurd (no-kept (sym e)), λ h. absurd (h .0 (p .0 refl)))
+one-fault x f (Breaks g) o p = (λ e. (λ k. no-kept (p .1 k), (cc)), λ h. (cc))
+
+of-test : (x : Fault) (b : Bool) → Only x (unless x b)
+of-test x true = tt
+of-test x false = refl
+
+of-date : (d : TextDate) → Only BadDate (dated d)
+of-date (Is n) = tt
+of-date Not = refl
+
+of-expiry : (today : ℕ) (d : TextDate) → Only BadDate (expires today d)
+of-expiry today (Is n) = of-test BadDate (inWindow today n)
+of-expiry today Not = refl
+
+first-of : {P : Type 0} (j : Judged Fault) (f : Fault) → ((j ≡ breaks f) ↔ P) → (ruled j ≡ Breaks f) ↔ P
+first-of kept f p = (λ e. absurd (no-kept (sym e)), λ h. ap ruled (p .1 h))
+first-of (breaks g) f p = (λ e. p .0 (cc), λ h. ap ruled (p .1 h))
+
+pub broken-exact : (rule : ValueRule) (today : ℕ) (v : List ℕ) → Bytes v → (f : Fault) → (ruleOf rule today v ≡ Breaks f) ↔ Violates rule today v f
+unfolding ruleOf
+broken-exact Free today v b f = (λ e. no-kept (sym e), λ h. absurd h)
+broken-exact Fascn today v b f = one-fault BadFascn f _ (of-test BadFascn (isFascn v)) (value-exact Fascn today v b)
+broken-exact Uuid today v b f = one-fault BadUuid f _ (of-test BadUuid (isUuid v)) (value-exact Uuid today v b)
+broken-exact Expiry today v b f = one-fault BadDate f _ (of-expiry today (dateOf v)) (value-exact Expiry today v b)
+broken-exact Model today v b f = one-fault BadFixed f _ (of-test BadFixed (same v model)) (value-exact Model today v b)
+broken-exact Application today v b f = one-fault BadFixed f _ (of-test BadFixed (same v application)) (value-exact Application today v b)
+broken-exact Policy today v b f = one-fault BadFixed f _ (of-test BadFixed (isPolicy v)) (value-exact Policy today v b)
+broken-exact Text today v b f = one-fault BadText f _ (of-test BadText (isText v)) (value-exact Text today v b)
+broken-exact Date today v b f = one-fault BadDate f _ (of-date (dateOf v)) (value-exact Date today v b)
+broken-exact Fingers today v b f = first-of (judge (header fingers (length v)) 0 v) f (first-broken-exact fingers v b f)
+broken-exact Face today v b f = first-of (judge (header face (length v)) 0 v) f (first-broken-exact face v b f)

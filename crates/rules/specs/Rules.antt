@@ -4,10 +4,11 @@ use mathlib.Core.Path.{_≡_}
 use mathlib.Core.List.{List, [], _∷_}
 use lib.ListN.{length}
 use Rattle.laws.specs.Tests.{same}
-use Rattle.laws.specs.Format.{judge}
+use Rattle.laws.specs.Format.{FirstBroken, judge}
 use Rattle.verdicts.specs.Verdicts.{unless, ruled}
 use Rattle.verdicts.specs.declared.Rule.{Rule}
 use Rattle.verdicts.specs.declared.Rule.the-variants.{Kept, Breaks}
+use Rattle.verdicts.specs.declared.Fault.{Fault}
 use Rattle.verdicts.specs.declared.Fault.the-variants.{BadFascn, BadUuid, BadDate, BadFixed, BadText}
 use Rattle.kinds.specs.declared.ValueRule.{ValueRule}
 use Rattle.kinds.specs.declared.ValueRule.the-variants.{Free, Fascn, Uuid, Expiry, Model, Application, Policy, Text, Date, Fingers, Face}
@@ -41,9 +42,23 @@ Keeps Date today v = IsTextDate v
 Keeps Fingers today v = IsBiometric fingers v
 Keeps Face today v = IsBiometric face v
 
--- ---- the same as tests, each with its fault
+-- a value breaks a rule under the date today, with this fault: "17, 18, 19: FASC-N, UUID, text date (expiry window included)", "20: other fixed value or
+-- policy", "23: text byte"; "21, 22: CBEFF header, minutiae" and a header's 17 "in field order"
+abbrev pub Violates : ValueRule → ℕ → List ℕ → Fault → Type 0
+Violates Free today v f = ⊥
+Violates Fascn today v f = (Keeps Fascn today v → ⊥) × (f ≡ BadFascn)
+Violates Uuid today v f = (Keeps Uuid today v → ⊥) × (f ≡ BadUuid)
+Violates Expiry today v f = (Keeps Expiry today v → ⊥) × (f ≡ BadDate)
+Violates Model today v f = (Keeps Model today v → ⊥) × (f ≡ BadFixed)
+Violates Application today v f = (Keeps Application today v → ⊥) × (f ≡ BadFixed)
+Violates Policy today v f = (Keeps Policy today v → ⊥) × (f ≡ BadFixed)
+Violates Text today v f = (Keeps Text today v → ⊥) × (f ≡ BadText)
+Violates Date today v f = (Keeps Date today v → ⊥) × (f ≡ BadDate)
+Violates Fingers today v f = FirstBroken (header fingers (length v)) v f
+Violates Face today v f = FirstBroken (header face (length v)) v f
 
--- "17, 18, 19: FASC-N, UUID, text date (expiry window included)"
+-- ---- the same as tests
+
 abbrev pub expires : ℕ → TextDate → Rule
 expires today (Is e) = unless BadDate (inWindow today e)
 expires today Not = Breaks BadDate
