@@ -16,8 +16,8 @@ use Rattle.laws.proofs.Cases.{which}
 use Rattle.lengths.specs.Length.{lengthBytes}
 use Rattle.kinds.specs.Tables.{Entry, Table}
 use Rattle.verdicts.specs.declared.Fault.{Fault}
-use Rattle.container.specs.Container.{Values, tagBytes, encode, Allowed}
-use Rattle.container.specs.Reading.{Parsed, values, fault, prepend, Element, whole, broken, element, long, has, tagHere, follow, parse}
+use Rattle.container.specs.Container.{Values, tagBytes, long, has, tagHere, encode, Allowed}
+use Rattle.container.specs.Reading.{Parsed, values, fault, prepend, Element, whole, broken, element, follow, parse}
 use Rattle.container.proofs.Rows.{Distinct}
 use Rattle.container.proofs.Tags.{Plain, Tags, tag-is, begins}
 use Rattle.container.proofs.One.{Good, element-is, element-of, good-fits, fits-good}

@@ -18,8 +18,8 @@ use Rattle.lengths.specs.Length.{lengthBytes}
 use Rattle.kinds.specs.Tables.{Entry, Table}
 use Rattle.verdicts.specs.declared.Fault.{Fault}
 use Rattle.verdicts.specs.declared.Fault.the-variants.{UnknownTag, TagOrder, MissingRow}
-use Rattle.container.specs.Container.{Values, tagBytes, encode, Allowed}
-use Rattle.container.specs.Reading.{Parsed, values, fault, prepend, Element, whole, broken, element, long, has, tagHere, misplaced, follow, parse}
+use Rattle.container.specs.Container.{Values, tagBytes, long, has, tagHere, encode, Allowed}
+use Rattle.container.specs.Reading.{Parsed, values, fault, prepend, Element, whole, broken, element, misplaced, follow, parse}
 use Rattle.container.specs.InOrder.{Owed, AtFault, not-in-table, not-to-come, passed-over, in-row, Wrong, First}
 use Rattle.container.proofs.Tags.{tag-is}
 use Rattle.container.proofs.One.{element-is, good-fits}

@@ -19,8 +19,8 @@ use Rattle.kinds.specs.Tables.{Entry, Table, table, IsKind, isKind}
 use Rattle.verdicts.specs.declared.Fault.{Fault}
 use Rattle.verdicts.specs.declared.Fault.the-variants.{UnknownTag, TagOrder, MissingRow}
 use Rattle.verdicts.specs.declared.Outcome.the-variants.{Broken}
-use Rattle.container.specs.Container.{Values, tagBytes, encode, outerTag, Allowed, largest}
-use Rattle.container.specs.Reading.{Parsed, values, fault, prepend, broken, element, long, has, tagHere, parse, outer, parsed, outcomeOf}
+use Rattle.container.specs.Container.{Values, tagBytes, long, has, tagHere, encode, outerTag, Allowed, largest}
+use Rattle.container.specs.Reading.{Parsed, values, fault, prepend, broken, element, parse, outer, parsed, outcomeOf}
 use Rattle.container.specs.InOrder.{Owed, not-in-table, not-to-come, passed-over, in-row, Wrong, LastThere, First, Named, no-kind, no-date, too-large, outer-tag, outer-length, outer-end, in-element}
 use Rattle.container.proofs.Rows.{Distinct, gone}
 use Rattle.container.proofs.Tags.{Tags, tags, distinct, begins}

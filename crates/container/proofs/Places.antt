@@ -16,8 +16,7 @@ use Rattle.lengths.specs.declared.Length.the-variants.{Is, Bad}
 use Rattle.lengths.proofs.Reading.{some-read, none-read}
 use Rattle.lengths.proofs.Spellings.{reads-back, inside as spelling-inside}
 use Rattle.kinds.specs.Tables.{Table, table}
-use Rattle.container.specs.Container.{Values, tagBytes, encode}
-use Rattle.container.specs.Reading.{long, has, tagHere}
+use Rattle.container.specs.Container.{Values, tagBytes, long, has, tagHere, encode}
 use Rattle.container.specs.Places.{begin, past, lies, foundAt, firstElement}
 use Rattle.container.specs.declared.Found.the-variants.{At, Absent}
 use Rattle.container.proofs.Tags.{Plain, Tags, begins}

@@ -18,7 +18,8 @@ use Rattle.kinds.specs.declared.Row.the-variants.{At, Missing}
 use Rattle.verdicts.specs.declared.Fault.the-variants.{UnknownTag, TagOrder, MissingRow}
 use Rattle.verdicts.specs.declared.Outcome.{Outcome}
 use Rattle.verdicts.specs.declared.Outcome.the-variants.{Fine, Broken}
-use Rattle.container.specs.Reading.{Parsed, values, fault, prepend, element, long, has, tagHere, misplaced, follow, parse, outcomeOf}
+use Rattle.container.specs.Container.{long, has, tagHere}
+use Rattle.container.specs.Reading.{Parsed, values, fault, prepend, element, misplaced, follow, parse, outcomeOf}
 use Rattle.container.specs.Step.{lengthsOf}
 
 -- a value more changes no outcome

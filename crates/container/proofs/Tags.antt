@@ -10,8 +10,7 @@ use borrow.Author.Tests.{lt-ltb, ne-eqb, eqb-true, eqb-false, ltb-true, not-true
 use Rattle.laws.proofs.Cases.{which, and-true, either}
 use Rattle.laws.proofs.Turns.{from-one}
 use Rattle.kinds.specs.Tables.{Table, table, ccc, chuid, discovery, printed, security, fingers, face}
-use Rattle.container.specs.Container.{tagBytes}
-use Rattle.container.specs.Reading.{long, has, tagHere}
+use Rattle.container.specs.Container.{tagBytes, long, has, tagHere}
 use Rattle.container.proofs.Rows.{Distinct}
 
 -- ---- a computed test of each table is a test of the table of any kind

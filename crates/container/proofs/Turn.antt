@@ -18,7 +18,8 @@ use Rattle.kinds.specs.declared.Row.the-variants.{At, Missing}
 use Rattle.verdicts.specs.declared.Fault.{Fault}
 use Rattle.verdicts.specs.declared.Fault.the-variants.{UnknownTag, TagOrder, MissingRow}
 use Rattle.verdicts.specs.declared.Outcome.the-variants.{Fine, Broken}
-use Rattle.container.specs.Reading.{Element, whole, broken, element, long, tagHere, follow, parse, outcomeOf}
+use Rattle.container.specs.Container.{long, tagHere}
+use Rattle.container.specs.Reading.{Element, whole, broken, element, follow, parse, outcomeOf}
 use Rattle.container.specs.Step.{walkedFrom, valueAt, lengthsOf}
 use Rattle.container.specs.declared.Value.the-variants.{Bad, Whole}
 use Rattle.container.proofs.One.{element-is}

@@ -14,8 +14,7 @@ use Rattle.kinds.specs.declared.ValueRule.{ValueRule}
 use Rattle.rules.specs.Rules.{Violates}
 use Rattle.verdicts.specs.declared.Fault.{Fault}
 use Rattle.verdicts.specs.declared.Fault.the-variants.{UnknownKind, NoDate, LargeContainer, OuterTag, LengthForm, Overrun, UnknownTag, TagOrder, MissingRow, ElementLength}
-use Rattle.container.specs.Container.{Values, encode, outerTag, Allowed, largest}
-use Rattle.container.specs.Reading.{long, has, tagHere}
+use Rattle.container.specs.Container.{Values, long, has, tagHere, encode, outerTag, Allowed, largest}
 
 -- ---- an element
 

@@ -7,8 +7,7 @@ use lib.ListN.{length, drop}
 use lib.Dec.{ltb, eqb}
 use Rattle.lengths.specs.Length.{lengthBytes, readLength, Spelt}
 use Rattle.kinds.specs.Tables.{Table, table}
-use Rattle.container.specs.Container.{Values, encode}
-use Rattle.container.specs.Reading.{long, tagHere}
+use Rattle.container.specs.Container.{Values, long, tagHere, encode}
 use Rattle.container.specs.declared.Found.{Found}
 use Rattle.container.specs.declared.Found.the-variants.{At, Absent}
 

@@ -1,7 +1,7 @@
 -- A container read: its values, or the first rule that it breaks and its place. `proofs/` shows that values are read exactly where the container
 -- conforms (`Promise`), and a fault exactly where it is the first broken rule (`Named`).
 use Prim.Native.Nat.{ℕ, _+_}
-use mathlib.Core.Bool.{Bool, true, false, cond, _&&_}
+use mathlib.Core.Bool.{cond}
 use mathlib.Core.Option.{Option, none, some}
 use mathlib.Core.List.{List, [], _∷_}
 use lib.ListN.{length, take, drop}
@@ -19,7 +19,7 @@ use Rattle.verdicts.specs.declared.Rule.the-variants.{Kept, Breaks}
 use Rattle.verdicts.specs.declared.Outcome.{Outcome}
 use Rattle.verdicts.specs.declared.Outcome.the-variants.{Fine, Broken}
 use Rattle.verdicts.specs.declared.Verdict.{Verdict}
-use Rattle.container.specs.Container.{Values, tagBytes, outerTag, largest}
+use Rattle.container.specs.Container.{Values, long, has, tagHere, outerTag, largest}
 
 pub data Parsed : Type 0 where
   values : Values → Parsed
@@ -53,30 +53,17 @@ module _ (l : Lengths) (rule : ValueRule) (today : ℕ) where
   unfoldable pub element : List ℕ → Element
   element s = measured (readLength s) s
 
--- ---- the tag that a byte begins
-
-abbrev pub has : ℕ → Table → Bool
-has t [] = false
-has t (r ∷ rs) = cond (eqb t (r .tag)) true (has t rs)
-
--- one byte, or 5F2F in a table that has it ("there a 5F without 2F after it is 13": it is the tag 5F, which no table has)
-abbrev pub tagHere : Table → ℕ → List ℕ → ℕ
-tagHere all b [] = b
-tagHere all b (x ∷ s) = cond (has 0x5F2F all && (eqb b 0x5F && eqb x 0x2F)) 0x5F2F b
-
-abbrev pub long : ℕ → ℕ
-long t = length (tagBytes t)
+-- ---- the elements, row by row
 
 -- a tag that stands where it may not, while the rows `rest` of the table `all` are still to come: 15, 14 or 13
 abbrev pub misplaced : Table → Table → ℕ → Fault
 misplaced all rest t = cond (has t rest) MissingRow (cond (has t all) TagOrder UnknownTag)
 
--- ---- the elements, row by row: the bytes s, which start at the offset `at`, as elements of the rows to come
-
 abbrev pub follow : ℕ → Element → (ℕ → Parsed) → Parsed
 follow at (whole v size) k = prepend (some v) (k size)
 follow at (broken f) k = fault f at
 
+-- the bytes s, which start at the offset `at`, as elements of the rows to come
 abbrev pub parse : ℕ → Table → Table → ℕ → List ℕ → Parsed
 parse today all [] at [] = values []
 parse today all [] at (b ∷ s) = fault (misplaced all [] (tagHere all b s)) at

@@ -1,7 +1,7 @@
 -- Demand 1, of all seven calls. Assumes nothing.
 use Prim.Native.Nat.{ℕ, _+_, _≤_}
 use mathlib.Core.Logic.{_⊎_, inl, inr}
-use mathlib.Core.Path.{_≡_, refl, sym, _∙_}
+use mathlib.Core.Path.{_≡_, refl, sym, ap, _∙_}
 use mathlib.Core.Bool.{_&&_}
 use mathlib.Core.Option.{Option, none, some}
 use mathlib.Core.List.{List, []}
@@ -15,8 +15,9 @@ use Rattle.dates.specs.Date.{isDate}
 use Rattle.kinds.specs.Tables.{table, isKind}
 use Rattle.fascn.specs.Fascn.{encoded, inRange}
 use Rattle.fascn.specs.Reading.{valuesOf, framed, decoded}
-use Rattle.fascn.specs.Calls.{noNumbers, status, output, Encoded}
+use Rattle.fascn.specs.Calls.{status, output, Encoded}
 use Rattle.fascn.specs.declared.Numbers.{Numbers}
+use Rattle.fascn.specs.declared.Decoded.{Decoded}
 use Rattle.fascn.proofs.Packing.{length-encoded}
 use Rattle.verdicts.specs.Verdicts.{numberOf, verdictOf}
 use Rattle.verdicts.specs.declared.Fault.{Fault}
@@ -33,7 +34,7 @@ use Rattle.writing.specs.Writing.{opened, judged, sizedOut, judgedOut, openedOu
 use Rattle.views.specs.Views.{shown, viewOf, viewed}
 use Rattle.report.specs.Calls.{reportOutput}
 use Rattle.report.proofs.Answers.{report-cases}
-use Rattle.prosianek.proofs.Decoding.{is-decoded}
+use Rattle.prosianek.proofs.Decoding.{is-decoded, decoded-else}
 use Rattle.promises.specs.Demands.{Numbered, Clean, Demand1}
 use Rattle.promises.proofs.Rooms.{answer, Fits, left-nothing, left-text, clean}
 
@@ -60,13 +61,6 @@ unfolding decoded
 decoded-numbered s = elim (which (eqb (length s) 25 && framed (valuesOf s))) [
   | inl p ↦ inl (rw p)
   | inr p ↦ inr (BadFascn, rw p)
-]
-
-decoded-clean : (s : List ℕ) → (decoded s .number ≡ 0 → ⊥) → (decoded s .number ≡ numberOf BadFascn) × (decoded s .numbers ≡ noNumbers)
-unfolding decoded
-decoded-clean s z = elim (which (eqb (length s) 25 && framed (valuesOf s))) [
-  | inl p ↦ absurd (z (rw p))
-  | inr p ↦ rw p (refl, refl)
 ]
 
 -- ---- every output goes into its room
@@ -150,11 +144,11 @@ demand-1 = record {
     viewed-numbered kind today c tag,
   );
   report-answers = λ kind today c before. (_, _, record { leaves = answer (reportOutput kind today c (length before)) before });
-  decode-answers = λ s b. (decoded s, is-decoded s b (decoded s) .1 refl, decoded-numbered s);
+  decode-answers = λ s b. (decoded s, is-decoded s b refl, decoded-numbered s);
   encode-answers = λ n before. (_, _, record { leaves = record { answer = refl; room = refl } });
   read-clean = λ kind today c before after r h. clean (readOutput kind today c (length before)) before (read-fits kind today c (length before)) (h .leaves);
   write-clean = λ kind today s before after r h. clean (writeOutput kind today s (length before)) before (write-fits kind today s (length before)) (h .leaves);
   report-clean = λ kind today c before after r h. clean (reportOutput kind today c (length before)) before (report-fits kind today c (length before)) (h .leaves);
   encode-clean = λ n before after number h. encode-clean n before after number (h .leaves);
-  decode-clean = λ s b r d. rw (is-decoded s b r .0 d) (decoded-clean s);
+  decode-clean = λ s r d z. let e = decoded-else s d z in (ap (λ (x : Decoded). x .number) e, ap (λ (x : Decoded). x .numbers) e);
 }

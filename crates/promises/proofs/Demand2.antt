@@ -17,7 +17,6 @@ use Rattle.fascn.specs.declared.Numbers.{Numbers}
 use Rattle.fascn.specs.declared.Decoded.{Decoded}
 use Rattle.fascn.proofs.Framing.{range-exact}
 use Rattle.fascn.proofs.Packing.{length-encoded}
-use Rattle.fascn.proofs.Codec.{decoded-exact}
 use Rattle.verdicts.specs.Verdicts.{numberOf, verdictOf}
 use Rattle.verdicts.specs.declared.Fault.{Fault}
 use Rattle.verdicts.specs.declared.Verdict.{Verdict}
@@ -26,8 +25,8 @@ use Rattle.kinds.specs.Tables.{table}
 use Rattle.container.specs.Container.{Values, Conforms}
 use Rattle.container.specs.Reading.{Parsed, values, fault, parsed, outcomeOf, outcome, verdict}
 use Rattle.container.specs.InOrder.{Named}
-use Rattle.container.proofs.Named.{named-back}
-use Rattle.container.proofs.Promise.{exactly-when, unique, named}
+use Rattle.container.proofs.Named.{named-back, named-exact}
+use Rattle.container.proofs.Promise.{exact, exactly-when, unique, named}
 use Rattle.sheet.specs.Sheet.{IsSheet}
 use Rattle.sheet.specs.Calls.{readOutput}
 use Rattle.sheet.proofs.Answers.{read-fits}
@@ -36,8 +35,8 @@ use Rattle.writing.specs.Writing.{writeOutput}
 use Rattle.writing.proofs.Promise.{accepted, read-values, read-write, write-read}
 use Rattle.views.specs.Views.{View, viewed}
 use Rattle.views.proofs.Elements.{Shows, element-view, absent-view, foreign-view}
-use Rattle.prosianek.specs.Calls.{Reads, Writes, Views, Decodes}
-use Rattle.prosianek.proofs.Decoding.{is-decoded}
+use Rattle.prosianek.specs.Calls.{Reads, Writes, Views}
+use Rattle.prosianek.proofs.Decoding.{decoded-once, decoded-0}
 use Rattle.promises.specs.Demands.{Shown, Demand2}
 use Rattle.promises.proofs.Rooms.{text-of, gave}
 
@@ -118,10 +117,6 @@ shown kind today c tag s a = record {
 
 -- ---- a FASC-N alone
 
--- what was decoded to 0 is the FASC-N of the numbers that were answered
-decodes : (s : List ℕ) → Bytes s → (r : Decoded) → Decodes s r → r .number ≡ 0 → IsFascnOf s (r .numbers)
-decodes s b r d z = decoded-exact s b (r .numbers) .0 (sym (is-decoded s b r .0 d) ∙ (λ i. record { number = z i; numbers = r .numbers }))
-
 encoded-0 : (n : Numbers) (d e : List ℕ) → Encoded n d e 0 → (inRange n ≡ true) × (take 25 e ≡ encoded n)
 unfolding status output
 encoded-0 n d e l =
@@ -146,6 +141,8 @@ demand-2 = record {
   only-one = unique;
   first-named = λ kind today c b r a. first-named kind today c b r (a .answer);
   only-first = λ kind today c b r a. only-first kind today c b r (a .answer);
+  parsed-values = exact;
+  parsed-fault = named-exact;
   read-values = reads;
   write-values = writes;
   accepted-when = accepts;
@@ -160,13 +157,14 @@ demand-2 = record {
   view-foreign = λ kind today c b vs h t n at number place part bytes a.
       let w = foreign-view kind today c b vs h t n in
       (a .shows .number-is ∙ ap (λ (v : View). v .number) w, a .shows .bytes-are ∙ ap (λ (v : View). v .part .bytes) w);
-  decodes-when = λ s b r d. (λ z. (r .numbers, decodes s b r d z), λ f. ap (λ (d : Decoded). d .number) (d .good (f .0) (f .1)));
+  decodes-when = λ s r d. (λ z. (r .numbers, decoded-0 s d z), λ f. ap (λ (x : Decoded). x .number) (decoded-once s d (record { answer = inl (f .0, f .1, refl) })));
   encode-then-decode = λ n before after h r d.
       let e = encoded-0 n before after (h .leaves) in
-      let q : r ≡ success n = d .good n (record { in-range = range-exact n .0 (e .0); written = e .1 }) in
-      (ap (λ (d : Decoded). d .number) q, ap (λ (d : Decoded). d .numbers) q);
-  decode-then-encode = λ s b r d z before after number h l.
-      let c = decodes s b r d z in
+      let c : IsFascnOf (take 25 after) n = record { in-range = range-exact n .0 (e .0); written = e .1 } in
+      let q : r ≡ success n = decoded-once (take 25 after) d (record { answer = inl (n, c, refl) }) in
+      (ap (λ (x : Decoded). x .number) q, ap (λ (x : Decoded). x .numbers) q);
+  decode-then-encode = λ s r d z before after number h l.
+      let c = decoded-0 s d z in
       let k = encoding (r .numbers) before after number (range-exact (r .numbers) .1 (c .in-range)) l (h .leaves) in
       (k, encoded-0 (r .numbers) before after (rw k at (h .leaves)) .1 ∙ sym (c .written));
 }

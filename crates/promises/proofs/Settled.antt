@@ -3,20 +3,15 @@ use Prim.Native.Nat.{ℕ}
 use mathlib.Core.Path.{_≡_, sym, ap, _∙_}
 use mathlib.Core.List.{List, [], _∷_}
 use lib.ListN.{length}
-use Rattle.laws.specs.Bytes.{Bytes}
 use Rattle.laws.proofs.Layouts.{by-entries}
 use Rattle.fascn.specs.declared.Numbers.{Numbers}
 use Rattle.fascn.specs.declared.Decoded.{Decoded}
 use Rattle.verdicts.specs.declared.Verdict.{Verdict}
 use Rattle.verdicts.specs.declared.Done.{Done}
 use Rattle.verdicts.proofs.Outputs.{settled as settled-output}
-use Rattle.prosianek.specs.Calls.{Decodes}
-use Rattle.prosianek.proofs.Decoding.{is-decoded}
+use Rattle.prosianek.proofs.Decoding.{decoded-once}
 use Rattle.capi.specs.Calls.{numbersOf}
 use Rattle.promises.specs.Demands.{Settled, SettledForC}
-
-one-decode : (s : List ℕ) → Bytes s → (r₁ r₂ : Decoded) → Decodes s r₁ → Decodes s r₂ → r₁ ≡ r₂
-one-decode s b r₁ r₂ d e = is-decoded s b r₁ .0 d ∙ sym (is-decoded s b r₂ .0 e)
 
 pub settled : Settled
 settled = record {
@@ -30,7 +25,7 @@ settled = record {
     a .shows .bytes-are ∙ sym (b .shows .bytes-are),
   );
   one-report = λ kind today c before₁ before₂ after₁ after₂ r₁ r₂ h a b. settled-output _ before₁ before₂ h (a .leaves) (rw h (b .leaves));
-  one-decode = one-decode;
+  one-decode = λ s r₁ r₂. decoded-once s;
   one-encode = λ n before₁ before₂ after₁ after₂ k₁ k₂ h a b. (
     a .leaves .answer ∙ rw h (sym (b .leaves .answer)),
     a .leaves .room ∙ rw h (sym (b .leaves .room)),
@@ -70,8 +65,8 @@ settled-for-c = record {
       let e = settled .one-report kind today c before₁ before₂ after₁ after₂ _ _ h (a .answers) (b .answers) in
       let d = number-of (e .0) in
       (d .0, d .2, e .1);
-  one-decode = λ s b n₁ n₂ nine₁ nine₂ x y.
-      let e = one-decode s b _ _ (x .answers) (y .answers) in
+  one-decode = λ s n₁ n₂ nine₁ nine₂ x y.
+      let e = decoded-once s (x .answers) (y .answers) in
       (ap (λ (d : Decoded). d .number) e, nine-of nine₁ nine₂ (x .nine) (y .nine) (ap (λ (d : Decoded). d .numbers) e));
   one-encode = λ nine before₁ before₂ after₁ after₂ n₁ n₂ h a b.
       settled .one-encode (numbersOf nine) before₁ before₂ after₁ after₂ n₁ n₂ h (a .answers) (b .answers);

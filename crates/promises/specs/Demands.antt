@@ -27,7 +27,7 @@ use Rattle.verdicts.specs.declared.Done.{Done}
 use Rattle.kinds.specs.Tables.{table, IsKind, rowAt}
 use Rattle.kinds.specs.declared.Place.the-variants.{Holds}
 use Rattle.container.specs.Container.{Values, Conforms, largest}
-use Rattle.container.specs.Reading.{parsed}
+use Rattle.container.specs.Reading.{values, fault, parsed}
 use Rattle.container.specs.InOrder.{Named}
 use Rattle.sheet.specs.Sheet.{IsSheet}
 use Rattle.report.specs.Open.{agencyOf, systemOf, openOf, shape}
@@ -70,7 +70,7 @@ pub record Demand1 : Type 0 where
   pub encode-clean : (n : Numbers) (before after : List ℕ) (number : ℕ) → Encodes n before after number
       → ((number ≡ 0) × Clean before after number 25) ⊎ ((number ≡ 0 → ⊥) × Clean before after number 0)
   -- "any string but 25 conforming bytes is 17, with all nine numbers 0"
-  pub decode-clean : (s : List ℕ) → Bytes s → (r : Decoded) → Decodes s r → (r .number ≡ 0 → ⊥) → (r .number ≡ numberOf BadFascn) × (r .numbers ≡ noNumbers)
+  pub decode-clean : (s : List ℕ) (r : Decoded) → Decodes s r → (r .number ≡ 0 → ⊥) → (r .number ≡ numberOf BadFascn) × (r .numbers ≡ noNumbers)
 
 -- ---- Demand 2. "Under a given date a container of a known kind conforms exactly when some values allowed by the rules are written as those bytes;
 -- otherwise the first broken rule and its place are named. Writing the values that were read gives the container back byte for byte, and reading what was
@@ -98,6 +98,9 @@ pub record Demand2 : Type 0 where
   -- and nothing else can be named: where a rule is the first that is broken, the verdict is its number and its place
   pub only-first : (kind today : ℕ) (c : List ℕ) → Bytes c → (r : Verdict) → Checks kind today c r → (f : Fault) (place : ℕ) → Named kind today c f place
       → (r .number ≡ numberOf f) × (r .place ≡ place)
+  -- what is read of some bytes, from which sheets, views and reports are made: their values, exactly where they conform, or else the first broken rule
+  pub parsed-values : (kind today : ℕ) (c : List ℕ) → Bytes c → (vs : Values) → (parsed kind today c ≡ values vs) ↔ Conforms kind today vs c
+  pub parsed-fault : (kind today : ℕ) (c : List ℕ) → Bytes c → (f : Fault) (place : ℕ) → (parsed kind today c ≡ fault f place) ↔ Named kind today c f place
   -- a sheet that was read holds the container's values, and a container that was written has the sheet's
   pub read-values : (kind today : ℕ) (c before after : List ℕ) (r : Done) → Bytes c → Reads kind today c before after r → r .number ≡ 0
       → (vs : Values) × Conforms kind today vs c × IsSheet (table kind) vs (take (r .length) after)
@@ -128,10 +131,10 @@ pub record Demand2 : Type 0 where
       → (at : ℕ × ℕ) (number place : ℕ) (part : ℕ × ℕ) (bytes : List ℕ) → Views kind today c t at number place part bytes
       → (number ≡ numberOf NoElement) × (bytes ≡ [])
   -- a FASC-N alone: decoded exactly when there are nine numbers in range whose bytes these are; there and back
-  pub decodes-when : (s : List ℕ) → Bytes s → (r : Decoded) → Decodes s r → (r .number ≡ 0) ↔ IsFascn s
+  pub decodes-when : (s : List ℕ) (r : Decoded) → Decodes s r → (r .number ≡ 0) ↔ IsFascn s
   pub encode-then-decode : (n : Numbers) (before after : List ℕ) → Encodes n before after 0 → (r : Decoded) → Decodes (take 25 after) r
       → (r .number ≡ 0) × (r .numbers ≡ n)
-  pub decode-then-encode : (s : List ℕ) → Bytes s → (r : Decoded) → Decodes s r → r .number ≡ 0 → (before after : List ℕ) (number : ℕ)
+  pub decode-then-encode : (s : List ℕ) (r : Decoded) → Decodes s r → r .number ≡ 0 → (before after : List ℕ) (number : ℕ)
       → Encodes (r .numbers) before after number → 25 ≤ length before → (number ≡ 0) × (take 25 after ≡ s)
 
 -- ---- Demand 3. "Replace the personal values of a conforming container by any others of the same lengths that meet the rules: under the same date the desk
@@ -200,7 +203,7 @@ pub record Settled : Type 0 where
       → (n₁ ≡ n₂) × (p₁ ≡ p₂) × (part₁ ≡ part₂) × (bytes₁ ≡ bytes₂)
   pub one-report : (kind today : ℕ) (c before₁ before₂ after₁ after₂ : List ℕ) (r₁ r₂ : Done) → length before₁ ≡ length before₂
       → Reports kind today c before₁ after₁ r₁ → Reports kind today c before₂ after₂ r₂ → (r₁ ≡ r₂) × (after₁ ≡ after₂)
-  pub one-decode : (s : List ℕ) → Bytes s → (r₁ r₂ : Decoded) → Decodes s r₁ → Decodes s r₂ → r₁ ≡ r₂
+  pub one-decode : (s : List ℕ) (r₁ r₂ : Decoded) → Decodes s r₁ → Decodes s r₂ → r₁ ≡ r₂
   pub one-encode : (n : Numbers) (before₁ before₂ after₁ after₂ : List ℕ) (k₁ k₂ : ℕ) → length before₁ ≡ length before₂
       → Encodes n before₁ after₁ k₁ → Encodes n before₂ after₂ k₂ → (k₁ ≡ k₂) × (after₁ ≡ after₂)
 
@@ -215,6 +218,6 @@ pub record SettledForC : Type 0 where
       → CViews kind today c tag n₁ p₁ o₁ l₁ → CViews kind today c tag n₂ p₂ o₂ l₂ → (n₁ ≡ n₂) × (p₁ ≡ p₂) × (o₁ ≡ o₂) × (l₁ ≡ l₂)
   pub one-report : (kind today : ℕ) (c before₁ before₂ after₁ after₂ : List ℕ) (n₁ n₂ l₁ l₂ : ℕ) → length before₁ ≡ length before₂
       → CReports kind today c before₁ after₁ n₁ l₁ → CReports kind today c before₂ after₂ n₂ l₂ → (n₁ ≡ n₂) × (l₁ ≡ l₂) × (after₁ ≡ after₂)
-  pub one-decode : (s : List ℕ) → Bytes s → (n₁ n₂ : ℕ) (nine₁ nine₂ : List ℕ) → CDecodes s n₁ nine₁ → CDecodes s n₂ nine₂ → (n₁ ≡ n₂) × (nine₁ ≡ nine₂)
+  pub one-decode : (s : List ℕ) (n₁ n₂ : ℕ) (nine₁ nine₂ : List ℕ) → CDecodes s n₁ nine₁ → CDecodes s n₂ nine₂ → (n₁ ≡ n₂) × (nine₁ ≡ nine₂)
   pub one-encode : (nine before₁ before₂ after₁ after₂ : List ℕ) (n₁ n₂ : ℕ) → length before₁ ≡ length before₂
       → CEncodes nine before₁ after₁ n₁ → CEncodes nine before₂ after₂ n₂ → (n₁ ≡ n₂) × (after₁ ≡ after₂)

@@ -1,6 +1,7 @@
 -- The seven calls of the door. Each record is the whole contract of one call: what it answers and what it leaves, on every input. Nothing is asked of
 -- a caller, and nothing of the answer is left open (`promises`, `Settled`).
 use Prim.Native.Nat.{ℕ}
+use mathlib.Core.Logic.{_⊎_}
 use mathlib.Core.Path.{_≡_}
 use mathlib.Core.List.{List}
 use lib.ListN.{length}
@@ -38,10 +39,9 @@ pub record Views (kind today : ℕ) (c : List ℕ) (tag : ℕ) (at : ℕ × ℕ)
 pub record Reports (kind today : ℕ) (c before after : List ℕ) (r : Done) : Type 0 where
   pub leaves : Leaves (reportOutput kind today c (length before)) before after r
 
--- "Decoding alone: any string but 25 conforming bytes is 17, with all nine numbers 0": bytes that are the FASC-N of nine numbers give these numbers
+-- "Decoding alone: any string but 25 conforming bytes is 17, with all nine numbers 0": the nine numbers whose FASC-N these bytes are; or there are none
 pub record Decodes (s : List ℕ) (r : Decoded) : Type 0 where
-  pub good : (n : Numbers) → Conforms s n → r ≡ success n
-  pub else-refused : (IsFascn s → ⊥) → r ≡ refused
+  pub answer : ((n : Numbers) × Conforms s n × (r ≡ success n)) ⊎ ((IsFascn s → ⊥) × (r ≡ refused))
 
 -- "Encoding alone: 7, then 3 for a room under 25."
 pub record Encodes (n : Numbers) (before after : List ℕ) (number : ℕ) : Type 0 where

@@ -21,8 +21,8 @@ use Rattle.verdicts.specs.Verdicts.{numberOf}
 use Rattle.verdicts.specs.declared.Fault.{Fault}
 use Rattle.verdicts.specs.declared.Fault.the-variants.{MissingRow}
 use Rattle.verdicts.proofs.Apart.{number-small}
-use Rattle.container.specs.Container.{Values, tagBytes, outerTag, Fits, Allowed}
-use Rattle.container.specs.Reading.{Parsed, values, fault, prepend, Element, whole, broken, element, long, tagHere, follow, parse, inner, outer}
+use Rattle.container.specs.Container.{Values, tagBytes, long, tagHere, outerTag, Fits, Allowed}
+use Rattle.container.specs.Reading.{Parsed, values, fault, prepend, Element, whole, broken, element, follow, parse, inner, outer}
 use Rattle.container.proofs.One.{element-is, good-fits}
 use Rattle.container.proofs.Tags.{of-each, tag-is}
 use Rattle.container.proofs.Exact.{bytes-front, bytes-back}

@@ -26,8 +26,8 @@ use Rattle.texts.specs.Text.{ascii, hexTag}
 use Rattle.texts.proofs.Reading.{Reads, and-then, and, given, so, behind, read, Without, ended-reads}
 use Rattle.texts.proofs.Numbers.{number-reads, fixed-reads, hex-reads, tag-reads, raw-reads}
 use Rattle.kinds.specs.Tables.{Table, table, IsKind}
-use Rattle.container.specs.Container.{Values, encode, container, Fits, Allowed, Conforms}
-use Rattle.container.specs.Reading.{values, has}
+use Rattle.container.specs.Container.{Values, has, encode, container, Fits, Allowed, Conforms}
+use Rattle.container.specs.Reading.{values}
 use Rattle.container.proofs.Rows.{Distinct}
 use Rattle.container.proofs.Tags.{Plain, short, double, Tags, tags, distinct}
 use Rattle.container.proofs.Exact.{bytes-back}

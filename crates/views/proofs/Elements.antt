@@ -17,8 +17,7 @@ use Rattle.verdicts.specs.Verdicts.{numberOf}
 use Rattle.verdicts.specs.declared.Fault.the-variants.{NoElement}
 use Rattle.kinds.specs.Tables.{Table, table, first, rowAt}
 use Rattle.kinds.specs.declared.Place.the-variants.{Holds, End}
-use Rattle.container.specs.Container.{Values, encode, Conforms}
-use Rattle.container.specs.Reading.{has}
+use Rattle.container.specs.Container.{Values, has, encode, Conforms}
 use Rattle.container.specs.Places.{Part, start, begin, past, partOf}
 use Rattle.container.proofs.Rows.{Distinct}
 use Rattle.container.proofs.Tags.{distinct}

@@ -22,8 +22,7 @@ use Rattle.verdicts.specs.declared.Rule.{Rule}
 use Rattle.verdicts.specs.declared.Rule.the-variants.{Kept, Breaks}
 use Rattle.verdicts.specs.declared.Outcome.{Outcome}
 use Rattle.verdicts.specs.declared.Outcome.the-variants.{Fine, Broken}
-use Rattle.container.specs.Container.{Values, tagBytes, encode}
-use Rattle.container.specs.Reading.{has}
+use Rattle.container.specs.Container.{Values, tagBytes, has, encode}
 use Rattle.container.proofs.Rows.{Distinct}
 use Rattle.container.proofs.Tags.{of-each, distinct, tags, Plain, Tags, short, double}
 use Rattle.writing.specs.Writing.{ahead, opened, keptOr, judged}

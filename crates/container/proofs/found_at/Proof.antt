@@ -8,7 +8,7 @@ use Rattle.laws.specs.Bytes.{Bytes}
 use Rattle.laws.proofs.Bases.{below-of}
 use Rattle.lengths.specs.Length.{lengthAt}
 use Rattle.lengths.specs.declared.Length.the-variants.{Is}
-use Rattle.container.specs.Reading.{long}
+use Rattle.container.specs.Container.{long}
 use Rattle.container.proofs.Places.{past-end, other-tag, no-length, inside, over, found}
 use Rattle.container.proofs.found_at.Statement.{statement}
 use Rattle.container.proofs.found_at.Tie as tie
