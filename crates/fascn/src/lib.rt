@@ -295,16 +295,18 @@ fn is_in_range(n: Numbers) -> bool
         & (n.association < 10)
 }
 
-// The numbers' 25 bytes, and zeros after them: 0; or 7, or 3, and zeros alone. The room is cleared first, so that every
-// refusal is a plain return.
+// "7, then 3 for a room under 25": the numbers' 25 bytes, and zeros after them: 0; or zeros alone. The room is cleared
+// before, so that every refusal is a plain return.
 pub fn encode(numbers: Numbers, room: &mut [u8]) -> u64
     ensures { λ r. ⌜ Encoded numbers (now (room .entry)) (now (room .exit)) r ⌝ }
 {
+    let long = !is_in_range(numbers);
+    let small = room.len() < 25;
     room::clear(room);
-    if !is_in_range(numbers) {
+    if long {
         return 7;
     }
-    if room.len() < 25 {
+    if small {
         return 3;
     }
     let bytes = encoded(numbers);

@@ -1,22 +1,26 @@
--- The walk over the rows towards a tag: what is sought among the rows to come is what is sought in the whole. Assumes nothing.
+-- The walk over the rows towards a tag, turn by turn; and where a container conforms, what it finds lies where the part with the tag does. Assumes nothing.
 use Prim.Native.Nat.{ℕ, _+_}
-use mathlib.Core.Path.{_≡_, refl, sym, ap, ap₂, subst, _∙_}
-use mathlib.Core.Bool.{Bool, false}
-use mathlib.Core.Option.{Option, none, some}
+use mathlib.Core.Path.{_≡_, refl, sym, ap, subst, _∙_}
+use mathlib.Core.Bool.{Bool, cond}
+use mathlib.Core.Logic.{inl, inr}
 use mathlib.Core.List.{List, [], _∷_}
 use native.Mathlib.Omega.{arith}
 use lib.ListN.{length, drop}
-use lib.Seq.{drop-drop}
 use lib.Dec.{eqb}
 use borrow.Author.Tests.{eq-eqb, ne-eqb}
+use Rattle.laws.proofs.Cases.{which}
 use Rattle.kinds.specs.Tables.{Entry, Table, table, first, rowAt}
 use Rattle.kinds.specs.declared.Place.the-variants.{Holds, End}
 use Rattle.container.specs.Container.{Values, Conforms}
-use Rattle.container.specs.Places.{Part, start, begin, past, partOf, foundAt, Inside, firstElement}
+use Rattle.container.specs.Places.{start, begin, past, partOf, foundAt, Inside, firstElement}
 use Rattle.container.specs.declared.Found.{Found}
 use Rattle.container.specs.declared.Found.the-variants.{At, Absent}
-use Rattle.container.proofs.Walk.{From, starts, no-row, skipped, met}
-use Rattle.views.specs.Lies.{Lies, Within}
+use Rattle.container.proofs.Walk.{From, starts, dropped, skipped, met}
+use Rattle.views.specs.Lies.{after, seek, sought, Lies, Within}
+
+pub inside-within : (f : Found) (at size : ℕ) → Inside f at size → Within f size
+inside-within Absent at size i = tt
+inside-within (At from to) at size i = (i .1, i .2)
 
 -- a row that is there, and the rows after it
 row-is : (kind n : ℕ) {t : ℕ} {o : Bool} → rowAt kind n ≡ Holds t o → (r : Entry) × (drop n (table kind) ≡ r ∷ drop (n + 1) (table kind)) × (r .tag ≡ t)
@@ -24,87 +28,65 @@ row-is kind n {t} {o} e = go (drop n (table kind)) refl e
   where
     go : (rs : Table) → drop n (table kind) ≡ rs → first rs ≡ Holds t o → (r : Entry) × (drop n (table kind) ≡ r ∷ drop (n + 1) (table kind)) × (r .tag ≡ t)
     go [] q e = let z : _≡_ {A = ℕ} 0 1 = cc in absurd (omega arith)
-    go (r ∷ rs) q e =
-        let later : drop (n + 1) (table kind) ≡ rs = sym (drop-drop 1 n (table kind)) ∙ ap (drop 1) q in
-        (r, q ∙ ap (λ (l : Table). r ∷ l) (sym later), cc)
+    go (r ∷ rs) q e = (r, q ∙ ap (λ (l : Table). r ∷ l) (sym (dropped n (table kind) q)), cc)
 
--- so many rows lie behind, the others are written from the offset on, and the part with the tag is to be found among them: for all values whose
--- container the bytes are
-pub record Seeks (kind : ℕ) (c : List ℕ) (tag n at : ℕ) : Type 0 where
-  pub tells : (today : ℕ) (vs : Values) → Conforms kind today vs c
-      → From kind today n vs c at × (partOf (drop n (table kind)) (drop n vs) at tag ≡ partOf (table kind) vs (start kind vs) tag)
+-- ---- by the row's number, as the loop goes: n rows are behind
 
-pub at-first : {kind : ℕ} (c : List ℕ) {tag at : ℕ} → at ≡ firstElement c → Seeks kind c tag 0 at
-at-first {kind} c {tag} e =
-    record {
-      tells =
-          λ today vs h.
-          let s = starts kind today vs c h in
-          (rw e (s .1), ap (λ (n : ℕ). partOf (table kind) vs n tag) (e ∙ s .0));
-    }
+module _ (kind tag : ℕ) (c : List ℕ) where
+  pub seek-first : {at : ℕ} → at ≡ firstElement c → seek kind tag c (table kind) at ≡ sought kind tag c
+  unfolding sought
+  seek-first e = ap (seek kind tag c (table kind)) e
 
-pub inside-within : (f : Found) (at size : ℕ) → Inside f at size → Within f size
-inside-within Absent at size i = tt
-inside-within (At from to) at size i = (i .1, i .2)
+  module _ (n at : ℕ) where
+    -- past the last row
+    pub seek-end : rowAt kind n ≡ End → Absent ≡ seek kind tag c (drop n (table kind)) at
+    seek-end e = go (drop n (table kind)) e
+      where
+        go : (rs : Table) → first rs ≡ End → Absent ≡ seek kind tag c rs at
+        go [] e = refl
+        go (r ∷ rs) e = let z : _≡_ {A = ℕ} 0 1 = cc in absurd (omega arith)
 
-module _ {kind : ℕ} {c : List ℕ} {tag n at : ℕ} (w : Seeks kind c tag n at) where
-  -- past the last row: there is no such part
-  pub nowhere : rowAt kind n ≡ End → (today : ℕ) (vs : Values) → Conforms kind today vs c → Lies (partOf (table kind) vs (start kind vs) tag) c Absent
-  nowhere e today vs h =
-      let k = w .tells today vs h in
-      let q : none ≡ partOf (table kind) vs (start kind vs) tag = none-left (drop n (table kind)) ∙ ap (λ (l : Values). partOf (drop n (table kind)) l at tag) (sym (no-row kind today n vs c at (k .0) e)) ∙ k .1 in
-      subst (λ (p : Option Part). Lies p c Absent) q tt
-    where
-      none-left : (rs : Table) → none ≡ partOf rs [] at tag
-      none-left [] = refl
-      none-left (r ∷ rs) = refl
+    module _ {t : ℕ} {o : Bool} (e : rowAt kind n ≡ Holds t o) where
+      -- the tag's row, and another
+      pub seek-here : t ≡ tag → foundAt kind t at (drop at c) ≡ seek kind tag c (drop n (table kind)) at
+      seek-here i = let r = row-is kind n e in rw (r .1, eq-eqb tag (r .0 .tag) (sym (r .2 ∙ i)), r .2)
 
-  module _ {t : ℕ} {o : Bool} (e : rowAt kind n ≡ Holds t o) where
-    -- the tag's row: the part is what is found there
-    pub there : t ≡ tag → (f : Found) → foundAt kind t at (drop at c) ≡ f → (today : ℕ) (vs : Values) → Conforms kind today vs c
-        → Lies (partOf (table kind) vs (start kind vs) tag) c f
-    there i Absent f today vs h =
-        let k = w .tells today vs h in
-        let r = row-is kind n e in
-        let s = skipped kind today n vs c at (k .0) e f in
-        let here : none ≡ partOf (r .0 ∷ drop (n + 1) (table kind)) (none ∷ drop (n + 1) vs) at tag = rw (eq-eqb tag (r .0 .tag) (sym (r .2 ∙ i))) in
-        let q : none ≡ partOf (table kind) vs (start kind vs) tag = here ∙ ap₂ (λ (rs : Table) (ws : Values). partOf rs ws at tag) (sym (r .1)) (sym (s .0)) ∙ k .1 in
-        subst (λ (p : Option Part). Lies p c Absent) q tt
-    there i (At from to) f today vs h =
-        let k = w .tells today vs h in
-        let r = row-is kind n e in
-        let m = met kind today n vs c at (k .0) e f in
-        let p : Part = record { offset = begin (r .0 .tag) at (m .value); bytes = m .value } in
-        let here : some p ≡ partOf (r .0 ∷ drop (n + 1) (table kind)) (some (m .value) ∷ drop (n + 1) vs) at tag = rw (eq-eqb tag (r .0 .tag) (sym (r .2 ∙ i))) in
-        let q : some p ≡ partOf (table kind) vs (start kind vs) tag = here ∙ ap₂ (λ (rs : Table) (ws : Values). partOf rs ws at tag) (sym (r .1)) (sym (m .is)) ∙ k .1 in
-        subst (λ (p : Option Part). Lies p c (At from to)) q (m .begins ∙ ap (λ (u : ℕ). begin u at (m .value)) (sym (r .2)), m .bytes)
+      pub seek-on : (t ≡ tag → ⊥) → (f : Found) → foundAt kind t at (drop at c) ≡ f → seek kind tag c (drop (n + 1) (table kind)) (after at f) ≡ seek kind tag c (drop n (table kind)) at
+      seek-on d f q = let r = row-is kind n e in rw (r .1, ne-eqb tag (r .0 .tag) (λ p. d (sym (r .2) ∙ sym p)), r .2, q)
 
-    module _ (d : t ≡ tag → ⊥) where
-      -- another row, absent or there
-      pub over-none : foundAt kind t at (drop at c) ≡ Absent → Seeks kind c tag (n + 1) at
-      over-none f =
-          record {
-            tells =
-                λ today vs h.
-                let k = w .tells today vs h in
-                let r = row-is kind n e in
-                let s = skipped kind today n vs c at (k .0) e f in
-                let other : eqb tag (r .0 .tag) ≡ false = ne-eqb tag (r .0 .tag) (λ q. d (sym (r .2) ∙ sym q)) in
-                let here : partOf (drop (n + 1) (table kind)) (drop (n + 1) vs) at tag ≡ partOf (r .0 ∷ drop (n + 1) (table kind)) (none ∷ drop (n + 1) vs) at tag = rw other in
-                (s .1, here ∙ ap₂ (λ (rs : Table) (ws : Values). partOf rs ws at tag) (sym (r .1)) (sym (s .0)) ∙ k .1);
-          }
+-- ---- in a container that conforms
 
-      pub over-some : {from to : ℕ} → foundAt kind t at (drop at c) ≡ At from to → Seeks kind c tag (n + 1) to
-      over-some {from} {to} f =
-          record {
-            tells =
-                λ today vs h.
-                let k = w .tells today vs h in
-                let r = row-is kind n e in
-                let m = met kind today n vs c at (k .0) e f in
-                let other : eqb tag (r .0 .tag) ≡ false = ne-eqb tag (r .0 .tag) (λ q. d (sym (r .2) ∙ sym q)) in
-                let on : to ≡ past (r .0 .tag) at (m .value) = m .ends ∙ ap (λ (b : ℕ). b + length (m .value)) (m .begins ∙ ap (λ (u : ℕ). begin u at (m .value)) (sym (r .2))) in
-                let here : partOf (drop (n + 1) (table kind)) (drop (n + 1) vs) to tag ≡ partOf (r .0 ∷ drop (n + 1) (table kind)) (some (m .value) ∷ drop (n + 1) vs) at tag =
-                rw other (ap (λ (b : ℕ). partOf (drop (n + 1) (table kind)) (drop (n + 1) vs) b tag) on) in
-                (m .onward, here ∙ ap₂ (λ (rs : Table) (ws : Values). partOf rs ws at tag) (sym (r .1)) (sym (m .is)) ∙ k .1);
-          }
+module _ (kind today tag : ℕ) (vs : Values) (c : List ℕ) where
+  -- a row, by what is found of it, if it is so of the rows after it
+  lies-row : (r : Entry) (rs : Table) (n at : ℕ) → drop n (table kind) ≡ r ∷ rs → From kind today n vs c at
+      → ((to : ℕ) → From kind today (n + 1) vs c to → Lies (partOf rs (drop (n + 1) vs) to tag) c (seek kind tag c rs to))
+      → (f : Found) → foundAt kind (r .tag) at (drop at c) ≡ f
+      → Lies (partOf (r ∷ rs) (drop n vs) at tag) c (cond (eqb tag (r .tag)) f (seek kind tag c rs (after at f)))
+  lies-row r rs n at q w later Absent e =
+      let s = skipped kind today n vs c at w (ap first q) e in
+      rw (s .0)
+      (elim (which (eqb tag (r .tag))) [
+        | inl t ↦ rw t tt
+        | inr t ↦ rw t (later at (s .1))
+      ])
+  lies-row r rs n at q w later (At from to) e =
+      let m = met kind today n vs c at w (ap first q) e in
+      let on : past (r .tag) at (m .value) ≡ to = sym (m .ends ∙ ap (λ (b : ℕ). b + length (m .value)) (m .begins)) in
+      rw (m .is)
+      (elim (which (eqb tag (r .tag))) [
+        | inl t ↦ rw t (m .begins, m .bytes)
+        | inr t ↦ rw (t, on) (later to (m .onward))
+      ])
+
+  lies-from : (rs : Table) (n at : ℕ) → drop n (table kind) ≡ rs → From kind today n vs c at → Lies (partOf rs (drop n vs) at tag) c (seek kind tag c rs at)
+  lies-from [] n at q w = tt
+  lies-from (r ∷ rs) n at q w =
+      lies-row r rs n at q w (λ to v. lies-from rs (n + 1) to (dropped n (table kind) q) v) (foundAt kind (r .tag) at (drop at c)) refl
+
+  pub sought-lies : Conforms kind today vs c → Lies (partOf (table kind) vs (start kind vs) tag) c (sought kind tag c)
+  unfolding sought
+  sought-lies h = let s = starts kind today vs c h in rw (← s .0) (lies-from (table kind) 0 (firstElement c) refl (s .1))
+
+  -- the same of the answer that was told apart
+  pub answer-lies : Conforms kind today vs c → {r f : Found} → r ≡ sought kind tag c → r ≡ f → Lies (partOf (table kind) vs (start kind vs) tag) c f
+  answer-lies h p q = subst (λ (g : Found). Lies (partOf (table kind) vs (start kind vs) tag) c g) (sym p ∙ q) (sought-lies h)

@@ -1,18 +1,16 @@
 // "A view gives the element's value as a part of the caller's container; its place and length are fixed."
-ghost use Prim.Native.Nat.{ℕ};
+ghost use mathlib.Core.Path.{_≡_};
 ghost use lib.ListN.{length};
-ghost use Rattle.kinds.specs.Tables.{table};
-ghost use Rattle.container.specs.Container.{Values, Conforms};
-ghost use Rattle.container.specs.Places.{start, partOf};
-ghost use Rattle.views.specs.Lies.{Lies, Within};
+ghost use Rattle.views.specs.Lies.{sought, Within};
 ghost use Rattle.views.specs.Views.{viewed, Locates, Answers};
 use container::Found;
 use kinds::Place;
 use verdicts::Outcome;
 
-// Where the value with this tag lies in a container that conforms: the rows one after the other, up to the tag's.
+// What is found of the tag's row: the rows one after the other, up to that one. In a container that conforms it is where the
+// value with this tag lies (`sought-lies` in proofs/Seeking.antt).
 pub fn sought(kind: u64, tag: u64, c: &[u8]) -> Found
-    ensures { λ r. ⌜ ((today : ℕ) (vs : Values) → Conforms kind today vs (now (c .entry)) → Lies (partOf (table kind) vs (start kind vs) tag) (now (c .entry)) r) ⌝ }
+    ensures { λ r. ⌜ r ≡ sought kind tag (now (c .entry)) ⌝ }
     ensures { λ r. ⌜ Within r (length (now (c .entry))) ⌝ }
 {
     let mut from = container::first_element(c);

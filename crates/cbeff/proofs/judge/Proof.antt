@@ -1,13 +1,14 @@
 -- `cbeff::judge` meets its contract. Assumes nothing.
-use Prim.Native.Nat.{ℕ}
+use Prim.Native.Nat.{ℕ, _+_, _≤_}
 use mathlib.Core.Path.{_≡_, sym, _∙_}
 use mathlib.Core.Bool.{true}
 use mathlib.Core.List.{List}
-use native.Mathlib.Nat.{add-sub-cancel-left}
+use native.Mathlib.Nat.{add-sub-cancel-left, add-sub-cancel}
 use native.Mathlib.Omega.{arith}
+use lib.ListN.{length}
 use borrow.Author.Tests.{not-true, not-false}
 use borrow.Author.Needs.{needs}
-use Rattle.laws.specs.Layout.{part}
+use Rattle.laws.specs.Layout.{field, part}
 use Rattle.fascn.specs.Reading.{isFascn}
 use Rattle.cbeff.specs.Judged.{sizesHold, datesHold, formHolds}
 use Rattle.cbeff.specs.declared.Biometric.{Biometric}
@@ -84,10 +85,12 @@ returns-6 c =
     (λ z. c .if6 .taken (c .before .number2 .ensures .0 ∙ z))
     ∙ judged-is (biometric k) (value k)
 
-part-data-holds-end : tie.Need-part-data-holds-end
-part-data-holds-end c =
+-- "88 + d + s bytes", where the data part is taken
+whole : (c : tie.Else6) → let k = c .before .before .before .before .before .before .before .before .before in
+    (1 ≤ size k) × (1 ≤ field (value k) 6 2) × (88 + size k + field (value k) 6 2 ≡ length (value k))
+whole c =
     let k = c .before .before .before .before .before .before .before .before .before in
-    omega (arith, sizes-told (biometric k .format) (size k) (value k) (sym (sized k)))
+    sizes-told (biometric k .format) (size k) (value k) (sym (sized k))
 
 returns-7 : tie.Need-returns-7
 returns-7 c =
@@ -97,7 +100,7 @@ returns-7 c =
     let t = f .before .before in
     let k = t .before .before in
     bad-data (biometric k) (value k) (omega arith) (size k) (k .before .before .number .ensures .0) (sized k) (dated t) (formed f) (named n)
-    (sym (z .before .number2 .ensures .0) ∙ z .if6 .left) (sym (not-true _ (c .if7 .taken)) ∙ rw add-sub-cancel-left at (c .before .data-holds .ensures))
+    (sym (z .before .number2 .ensures .0) ∙ z .if6 .left) (sym (not-true _ (c .if7 .taken)) ∙ simp (add-sub-cancel-left, add-sub-cancel) at (c .before .data-holds .ensures))
     ∙ judged-is (biometric k) (value k)
 
 returns-8 : tie.Need-returns-8
@@ -108,7 +111,7 @@ returns-8 c =
     let t = f .before .before in
     let k = t .before .before in
     all-kept (biometric k) (value k) (omega arith) (size k) (k .before .before .number .ensures .0) (sized k) (dated t) (formed f) (named n)
-    (sym (z .before .number2 .ensures .0) ∙ z .if6 .left) (sym (not-false _ (c .if7 .left)) ∙ rw add-sub-cancel-left at (c .before .data-holds .ensures))
+    (sym (z .before .number2 .ensures .0) ∙ z .if6 .left) (sym (not-false _ (c .if7 .left)) ∙ simp (add-sub-cancel-left, add-sub-cancel) at (c .before .data-holds .ensures))
     ∙ judged-is (biometric k) (value k)
 
 pub judge-spec : {M : Type 1} → statement M
@@ -131,9 +134,9 @@ judge-spec =
     (λ c κs. search needs)
     returns-6
     (λ c. search needs)
-    (λ c. search needs)
-    (λ c. search needs)
-    part-data-holds-end
+    (λ c. omega (arith, whole c))
+    (λ c. omega (arith, whole c))
+    (λ c. omega (arith, whole c))
     (λ c κs. search needs)
     returns-7
     returns-8)

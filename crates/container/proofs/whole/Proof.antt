@@ -41,7 +41,7 @@ returns-3 c =
     let k = c .before in
     let e = k .before .before .before .before in
     let a = e .before .before .before .before .before .args in
-    off-end (a .kind) (a .today) (a .c .now) (bytes k) (e .before .before .before .if1 .left) (tagged e) (told k) (c .if3 .taken)
+    off-end (a .kind) (a .today) (a .c .now) (bytes k) (e .before .before .before .if1 .left) (tagged e) (told k) (omega (arith, c .if3 .taken))
 
 returns-4 : tie.Need-returns-4
 returns-4 c =
@@ -54,7 +54,7 @@ returns-5 c =
     let k = c .before .before in
     let e = k .before .before .before .before in
     let a = e .before .before .before .before .before .args in
-    c .elements .ensures ∙ fits-outer (a .kind) (a .today) (a .c .now) (bytes k) (e .before .before .before .if1 .left) (tagged e) (told k) (c .before .if3 .left)
+    c .elements .ensures ∙ fits-outer (a .kind) (a .today) (a .c .now) (bytes k) (e .before .before .before .if1 .left) (tagged e) (told k) (omega (arith, c .before .if3 .left))
 
 pub whole-spec : {M : Type 1} → statement M
 whole-spec =

@@ -1,7 +1,6 @@
 -- `fascn::encode` meets its contract: a law for each way out. Assumes nothing.
 use mathlib.Core.Path.{sym, ap, _∙_}
 use lib.ListN.{length}
-use native.Mathlib.Omega.{arith}
 use borrow.Author.Needs.{needs}
 use borrow.Author.Tests.{not-true, not-false}
 use Rattle.fascn.proofs.Answers.{encodes-7, encodes-3, encodes-0, front}
@@ -11,16 +10,17 @@ use Rattle.fascn.proofs.encode.Tie as tie
 
 returns : tie.Need-returns
 returns c =
-    let a = c .before .before .before .before .before .before .before .args in
-    encodes-7 (a .numbers) (a .room .now) (c .before .before .before .before .clear .ensures)
-    (sym (c .before .is-in-range .ensures) ∙ not-true _ (c .if1 .taken))
+    let z = c .before .before .before in
+    let r = z .before .before in
+    let a = r .before .before .args in
+    encodes-7 (a .numbers) (a .room .now) (z .clear .ensures) (sym (r .is-in-range .ensures) ∙ not-true _ (c .if1 .taken))
 
 returns-2 : tie.Need-returns-2
 returns-2 c =
-    let r = c .before .before in
-    let a = r .before .before .before .before .before .before .args in
-    encodes-3 (a .numbers) (a .room .now) (r .before .before .before .clear .ensures)
-    (sym (r .is-in-range .ensures) ∙ not-false _ (c .before .if1 .left)) (omega arith)
+    let z = c .before .before .before .before in
+    let r = z .before .before in
+    let a = r .before .before .args in
+    encodes-3 (a .numbers) (a .room .now) (z .clear .ensures) (sym (r .is-in-range .ensures) ∙ not-false _ (c .before .if1 .left)) (c .if2 .taken)
 
 slice-aggregate-put-all : tie.Need-slice-aggregate-put-all
 slice-aggregate-put-all c =
@@ -30,10 +30,10 @@ returns-3 : tie.Need-returns-3
 returns-3 c =
     let p = c .before .before in
     let e = p .before .before .before in
-    let r = e .before .before .before in
-    let a = r .before .before .before .before .before .before .args in
-    encodes-0 (a .numbers) (a .room .now) (r .before .before .before .clear .ensures)
-    (sym (r .is-in-range .ensures) ∙ not-false _ (e .before .before .if1 .left)) (omega arith)
+    let z = e .before .before .before .before .before in
+    let r = z .before .before in
+    let a = r .before .before .args in
+    encodes-0 (a .numbers) (a .room .now) (z .clear .ensures) (sym (r .is-in-range .ensures) ∙ not-false _ (e .before .before .if1 .left)) (e .before .if2 .left)
     (rw (front _ _ (e .encoded .ensures)) at (p .put-all .ensures))
 
 pub encode-spec : {M : Type 1} → statement M

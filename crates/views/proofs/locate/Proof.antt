@@ -4,6 +4,7 @@ use Rattle.laws.specs.Bytes.{Bytes}
 use Rattle.laws.proofs.Bases.{below-of}
 use Rattle.container.specs.Container.{Values, Conforms}
 use Rattle.container.proofs.Promise.{fine-exact}
+use Rattle.views.proofs.Seeking.{answer-lies}
 use Rattle.views.proofs.Ways.{out-broken, out-absent, out-there}
 use borrow.Author.Needs.{needs}
 use Rattle.views.proofs.locate.Statement.{statement}
@@ -33,7 +34,7 @@ returns-2 c =
     let a = x .before .args in
     let k = known (s .before) in
     out-absent (a .kind) (a .today) (a .container .now) (a .tag) (bytes x) (k .0) (k .1)
-    (rw (c .enum-told2 .given .1) at (s .sought .ensures .0 (a .today) (k .0) (k .1))) refl
+    (answer-lies (a .kind) (a .today) (a .tag) (k .0) (a .container .now) (k .1) (s .sought .ensures .0) (c .enum-told2 .given .1)) refl
 
 returns-3 : tie.Need-returns-3
 returns-3 c =
@@ -44,7 +45,7 @@ returns-3 c =
     let k = known (s .before) in
     out-there (a .kind) (a .today) (a .container .now) (a .tag) (bytes x) (k .0) (k .1) (e .start .given .0 .0) (e .start .given .0 .1 .0)
     (rw (e .start .given .1) at (s .sought .ensures .1))
-    (rw (e .start .given .1) at (s .sought .ensures .0 (a .today) (k .0) (k .1)))
+    (answer-lies (a .kind) (a .today) (a .tag) (k .0) (a .container .now) (k .1) (s .sought .ensures .0) (e .start .given .1))
 
 pub locate-spec : {M : Type 1} → statement M
 locate-spec =

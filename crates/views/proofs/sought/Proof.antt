@@ -1,18 +1,20 @@
--- `views::sought` meets its contract. The loop's invariant: what is sought among the rows to come is what is sought. Assumes nothing.
+-- `views::sought` meets its contract. The loop's invariant: what is sought among the rows to come is what is sought in the whole. Assumes nothing.
 use Prim.Native.Nat.{_-_, _≤_, _<_}
 use mathlib.Core.Path.{_≡_, sym, _∙_}
 use native.Mathlib.Omega.{arith}
-use lib.ListN.{length}
+use lib.ListN.{length, drop}
 use borrow.Author.Needs.{needs}
-use Rattle.kinds.specs.Tables.{rowAt}
+use Rattle.kinds.specs.Tables.{table, rowAt}
 use Rattle.kinds.specs.declared.Place.the-variants.{Holds}
+use Rattle.container.specs.declared.Found.the-variants.{At, Absent}
 use Rattle.container.proofs.Walk.{row-few}
-use Rattle.views.proofs.Seeking.{Seeks, at-first, inside-within, nowhere, there, over-none, over-some}
+use Rattle.views.specs.Lies.{seek, sought}
+use Rattle.views.proofs.Seeking.{inside-within, seek-first, seek-end, seek-here, seek-on}
 use Rattle.views.proofs.sought.Statement.{statement}
 use Rattle.views.proofs.sought.Tie as tie
 
 abbrev Inv-loop : tie.InvT-loop
-Inv-loop kind tag c from₀ row₀ from row = (row ≤ 15) × Seeks kind c tag row from
+Inv-loop kind tag c from₀ row₀ from row = (row ≤ 15) × (seek kind tag c (drop row (table kind)) from ≡ sought kind tag c)
 
 abbrev μ-loop : tie.MeasureT-loop
 μ-loop kind tag c from₀ row₀ from row = 15 - row
@@ -25,7 +27,7 @@ few : (c : tie.After-known-told Inv-loop μ-loop) → c .before .before .before 
 few c = let l = c .before .before .before .before in row-few (l .before .before .before .args .kind) (l .loop .row) (held c)
 
 loop-holds : tie.Need-loop-holds Inv-loop μ-loop
-loop-holds c = (omega arith, at-first _ (c .first-element .ensures))
+loop-holds c = let a = c .before .before .args in (omega arith, seek-first (a .kind) (a .tag) (a .c .now) (c .first-element .ensures))
 
 returns : tie.Need-returns Inv-loop μ-loop
 returns c =
@@ -33,7 +35,10 @@ returns c =
     let k = f .before in
     let l = k .before .before .before .before in
     let a = l .before .before .before .args in
-    (there (l .loop .inv .1) (held k) (c .if1 .taken) (f .found-at .result) (sym (f .found-at .ensures .0)), inside-within (f .found-at .result) (l .loop .from) (length (a .c .now)) (f .found-at .ensures .1))
+    let e = f .found-at .ensures in (
+      e .0 ∙ seek-here (a .kind) (a .tag) (a .c .now) (l .loop .row) (l .loop .from) (held k) (c .if1 .taken) ∙ l .loop .inv .1,
+      inside-within (f .found-at .result) (l .loop .from) (length (a .c .now)) (e .1),
+    )
 
 loop-less : tie.Need-loop-less Inv-loop μ-loop
 loop-less c = omega (arith, few (c .before .before .before .before .before))
@@ -42,8 +47,13 @@ loop-again : tie.Need-loop-again Inv-loop μ-loop
 loop-again c =
     let e = c .before .before .before in
     let k = e .before .before in
-    let l = k .before .before .before .before .loop in
-    (omega (arith, few k), over-some (l .inv .1) (held k) (e .if1 .left) (sym (e .before .found-at .ensures .0) ∙ c .before .found .given .1))
+    let l = k .before .before .before .before in
+    let a = l .before .before .before .args in
+    let g = c .before .found .given in (
+      omega (arith, few k),
+      seek-on (a .kind) (a .tag) (a .c .now) (l .loop .row) (l .loop .from) (held k) (e .if1 .left) (At (g .0 .0) (g .0 .1 .0)) (sym (e .before .found-at .ensures .0) ∙ g .1)
+          ∙ l .loop .inv .1,
+    )
 
 loop-less-2 : tie.Need-loop-less-2 Inv-loop μ-loop
 loop-less-2 c = omega (arith, few (c .before .before .before .before))
@@ -52,11 +62,18 @@ loop-again-2 : tie.Need-loop-again-2 Inv-loop μ-loop
 loop-again-2 c =
     let e = c .before .before in
     let k = e .before .before in
-    let l = k .before .before .before .before .loop in
-    (omega (arith, few k), over-none (l .inv .1) (held k) (e .if1 .left) (sym (e .before .found-at .ensures .0) ∙ c .enum-told .given .1))
+    let l = k .before .before .before .before in
+    let a = l .before .before .before .args in (
+      omega (arith, few k),
+      seek-on (a .kind) (a .tag) (a .c .now) (l .loop .row) (l .loop .from) (held k) (e .if1 .left) Absent (sym (e .before .found-at .ensures .0) ∙ c .enum-told .given .1)
+          ∙ l .loop .inv .1,
+    )
 
 returns-2 : tie.Need-returns-2 Inv-loop μ-loop
-returns-2 c = (nowhere (c .before .before .before .loop .inv .1) (sym (c .before .before .row-at .ensures) ∙ c .enum-told2 .given .1), tt)
+returns-2 c =
+    let l = c .before .before .before in
+    let a = l .before .before .before .args in
+    (seek-end (a .kind) (a .tag) (a .c .now) (l .loop .row) (l .loop .from) (sym (c .before .before .row-at .ensures) ∙ c .enum-told2 .given .1) ∙ l .loop .inv .1, tt)
 
 pub sought-spec : {M : Type 1} → statement M
 sought-spec =
