@@ -28,12 +28,15 @@ fn some_bytes(range: &Range<usize>) -> Vec<usize> {
 
 /// The faults of the answer that can be planted in a stretch.
 fn faults_after(stretch: &Stretch, rng: &mut Rng) -> Vec<Planted> {
-    let planted = |fault: fn(usize) -> Fault, at| ("changed", fault(at), Wrong::Answer(at));
+    let changed = |at| ("changed", Fault::Changed(at), Wrong::Answer(at));
+    let expected = |at| ("another expected", Fault::Expected(at), Wrong::Answer(at));
     let range = &stretch.range;
     match (stretch.sort, stretch.name) {
-        (Sort::Guard, _) => vec![planted(Fault::Changed, rng.size(range.start, range.end - 1))],
-        (_, "part") => some_bytes(range).into_iter().map(|at| planted(Fault::OtherPart, at)).collect(),
-        _ => some_bytes(range).into_iter().map(|at| planted(Fault::Changed, at)).collect(),
+        (Sort::Guard, _) => vec![changed(rng.size(range.start, range.end - 1))],
+        (Sort::Input, _) => some_bytes(range).into_iter().map(changed).collect(),
+        // a part is fetched after the call, so that a change of it before would be undone
+        (Sort::Lent, "part") => some_bytes(range).into_iter().map(expected).collect(),
+        (Sort::Lent, _) => some_bytes(range).into_iter().flat_map(|at| [changed(at), expected(at)]).collect(),
     }
 }
 
@@ -114,13 +117,13 @@ impl Trying {
 
     /// Says what was planted; gives whether all was seen, and something was planted everywhere.
     fn judge(&self) -> bool {
-        for what in ["changed", "zeros before", "expected before"] {
+        for what in ["changed", "another expected", "zeros before", "expected before"] {
             let planted = |name| self.planted.get(&(what, name)).copied().unwrap_or_default();
             let texts: Vec<String> = STRETCHES.iter().map(|&name| format!("{}:{}", name, planted(name))).collect();
             println!("  {}: {}", what, texts.join(" "));
         }
         println!("{} planted faults, {} unseen", self.planted.values().sum::<usize>(), self.unseen);
-        self.unseen == 0 && STRETCHES.iter().all(|&name| self.planted.contains_key(&("changed", name)))
+        self.unseen == 0 && STRETCHES.iter().all(|&name| self.planted.keys().any(|planted| planted.1 == name))
     }
 }
 

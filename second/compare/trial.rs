@@ -58,8 +58,8 @@ pub enum Fault {
     NoGuard(Range<usize>),
     /// After the call this byte is another one.
     Changed(usize),
-    /// This byte of the part that a view names is another one than the expected.
-    OtherPart(usize),
+    /// Here another byte is expected than the right one: so what makes an answer of what is expected shows.
+    Expected(usize),
 }
 
 /// Numbers as they stand in memory.
@@ -113,6 +113,7 @@ impl Trial {
     /// Makes the call and compares everything. Without a planted fault nothing should be wrong.
     pub fn run(&mut self, record: &Record, expected: &Answer, fault: &Fault) -> Result<(), Wrong> {
         self.lay_out(record, expected);
+        self.plant_expected(fault);
         self.fill();
         self.plant_before(fault);
         self.look_before()?;
@@ -301,6 +302,12 @@ impl Trial {
     // -----------------------------------------------------------------------------------------
     // Planted faults
 
+    fn plant_expected(&mut self, fault: &Fault) {
+        if let Fault::Expected(at) = *fault {
+            self.image[at] ^= other(&mut self.rng, 0);
+        }
+    }
+
     fn plant_before(&mut self, fault: &Fault) {
         match fault.clone() {
             Fault::Foreseen(range) => self.memory.0[range.clone()].copy_from_slice(&self.image[range]),
@@ -314,10 +321,8 @@ impl Trial {
     }
 
     fn plant_after(&mut self, fault: &Fault) {
-        match *fault {
-            Fault::Changed(at) => self.memory.0[at] ^= other(&mut self.rng, 0),
-            Fault::OtherPart(at) => self.image[at] ^= other(&mut self.rng, 0),
-            _ => (),
+        if let Fault::Changed(at) = *fault {
+            self.memory.0[at] ^= other(&mut self.rng, 0);
         }
     }
 }
