@@ -1,7 +1,7 @@
 // The seven calls of Prosianek for C and C++: PIV card data containers (SP 800-73-4) checked, read, written, viewed and
-// reported, and FASC-N numbers alone. crates/capi/src/lib.rt has the functions with their contracts; `rt staticlib capi`
-// proves them and makes target/staticlib/libcapi.a, which links into x86-64 programs and needs only the C library's memory
-// functions.
+// reported, and FASC-N numbers alone. crates/capi/src/lib.rt of the repository has the functions with their contracts. They are
+// in libprosianek.a, which links into x86-64 programs and needs only the C library's memory functions:
+//     cc program.c $(pkg-config --cflags --libs prosianek)
 //
 // What is proved: every call ends and answers, whatever the bytes, dates, tags and sizes are; number, place, length and
 // each byte of a lent room are what the contract says. The caller need not have checked anything. The calls keep nothing

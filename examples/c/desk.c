@@ -4,7 +4,8 @@
 // What it prints of a card is open by the desk's rules: tags, lengths, agency and system. The sheet, and the other seven
 // numbers of a FASC-N, are personal, so it only says that they came back.
 //
-// Exit status: 0, also for a container that breaks a rule; 1 if the report is refused or the calls disagree; 2 for bad words.
+// Exit status, as that of the desk: 0 if the container conforms; 1 if it breaks a rule, the report is refused or the calls
+// disagree; 2 for bad words, a file that cannot be read whole, or text that cannot be written.
 #include <inttypes.h>
 #include <stdio.h>
 #include <stdlib.h>
@@ -60,20 +61,18 @@ static int there_and_back(const uint8_t *fascn, size_t size) {
     return 1;
 }
 
-int main(int count, char **words) {
-    uint64_t kind, today;
-    if (count != 4 || !number_of(words[1], &kind) || !number_of(words[2], &today)) {
-        fprintf(stderr, "desk KIND TODAY FILE\n");
-        return 2;
-    }
-    FILE *file = fopen(words[3], "rb");
-    if (file == NULL) {
-        fprintf(stderr, "the file '%s' cannot be read\n", words[3]);
-        return 2;
-    }
-    size_t size = fread(container, 1, sizeof container, file);
+// The file's bytes go to `container`, as many as it holds; whether all were read that there are.
+static int read_file(const char *name, size_t *size) {
+    FILE *file = fopen(name, "rb");
+    if (file == NULL) return 0;
+    *size = fread(container, 1, sizeof container, file);
+    int whole = !ferror(file);
     fclose(file);
+    return whole;
+}
 
+// Prints what the calls say of the container; 0 if it conforms, else 1.
+static int tell(uint64_t kind, uint64_t today, size_t size) {
     uint64_t length;
     uint64_t number = prosianek_report(kind, today, container, size, report, sizeof report, &length);
     if (number != PROSIANEK_DONE) {
@@ -121,5 +120,25 @@ int main(int count, char **words) {
         printf("view: tag %02" PRIX64 " has %" PRIu64 " bytes at %" PRIu64 "\n", tags[kind], length, offset);
         if (kind == PROSIANEK_CHUID && !there_and_back(container + offset, length)) off = 1;
     }
-    return off;
+    return off || verdict != PROSIANEK_DONE;
+}
+
+int main(int count, char **words) {
+    uint64_t kind, today;
+    size_t size;
+    if (count != 4 || !number_of(words[1], &kind) || !number_of(words[2], &today)) {
+        fprintf(stderr, "desk KIND TODAY FILE\n");
+        return 2;
+    }
+    // a report of half a file would be wrong
+    if (!read_file(words[3], &size)) {
+        fprintf(stderr, "the file '%s' cannot be read\n", words[3]);
+        return 2;
+    }
+    int status = tell(kind, today, size);
+    if (fflush(stdout) != 0 || ferror(stdout)) {
+        fprintf(stderr, "not all could be written\n");
+        return 2;
+    }
+    return status;
 }

@@ -1,10 +1,11 @@
 //! desk KIND TODAY FILE: all seven calls on the container in a file. It prints the desk report, an empty line, and then what
 //! each of the other calls says. examples/c/desk.c prints the same text, and says what is printed and why no more.
 //!
-//! Exit status: 0, also for a container that breaks a rule; 1 if the report is refused or the calls disagree; 2 for bad words.
+//! Exit status, as that of the desk: 0 if the container conforms; 1 if it breaks a rule, the report is refused or the calls
+//! disagree; 2 for bad words, a file that cannot be read whole, or text that cannot be written.
 mod prosianek;
 use prosianek::Refused;
-use std::io::Write;
+use std::io::{self, Write};
 use std::process::exit;
 
 /// The element of each kind that is viewed.
@@ -27,8 +28,8 @@ fn number_of(word: &str) -> Option<u64> {
     word.parse().ok()
 }
 
-fn refused(call: &str, r: Refused) {
-    println!("{call}: number {}, place {}", r.number, r.place);
+fn refused(out: &mut impl Write, call: &str, r: Refused) -> io::Result<()> {
+    writeln!(out, "{call}: number {}, place {}", r.number, r.place)
 }
 
 fn main() {
@@ -45,45 +46,54 @@ fn main() {
         eprintln!("the file '{}' cannot be read", words[3]);
         exit(2)
     });
-
-    let mut room = [0; prosianek::REPORT_ROOM];
-    match prosianek::report(kind, today, &container, &mut room) {
-        Ok(length) => std::io::stdout()
-            .write_all(&room[..length])
-            .expect("standard output takes the report"),
-        Err(r) => {
-            println!("refused {}", r.number);
-            exit(1)
+    let mut out = io::stdout();
+    match tell(&mut out, kind, today, &container).and_then(|good| out.flush().map(|()| good)) {
+        Ok(good) => exit(!good as i32),
+        Err(_) => {
+            eprintln!("not all could be written");
+            exit(2)
         }
     }
-    println!();
+}
+
+/// Prints what the calls say of a container; whether it conforms.
+fn tell(out: &mut impl Write, kind: u64, today: u64, container: &[u8]) -> io::Result<bool> {
+    let mut room = [0; prosianek::REPORT_ROOM];
+    match prosianek::report(kind, today, container, &mut room) {
+        Ok(length) => out.write_all(&room[..length])?,
+        Err(r) => {
+            writeln!(out, "refused {}", r.number)?;
+            return Ok(false);
+        }
+    }
+    writeln!(out)?;
 
     // A container that breaks a rule has no values to read or view: these calls then answer as the check does.
-    let verdict = prosianek::check(kind, today, &container);
+    let verdict = prosianek::check(kind, today, container);
     match verdict {
-        Ok(()) => println!("check: conforms"),
-        Err(r) => refused("check", r),
+        Ok(()) => writeln!(out, "check: conforms")?,
+        Err(r) => refused(out, "check", r)?,
     }
 
     let mut off = false;
     let mut sheet = vec![0; prosianek::SHEET_ROOM];
-    let read = prosianek::read(kind, today, &container, &mut sheet);
+    let read = prosianek::read(kind, today, container, &mut sheet);
     off |= read.map(|_| ()) != verdict;
     match read {
-        Err(r) => refused("read", r),
+        Err(r) => refused(out, "read", r)?,
         Ok(length) => {
-            println!("read: a sheet of {length} bytes");
+            writeln!(out, "read: a sheet of {length} bytes")?;
             let mut written = vec![0; prosianek::LARGEST_CONTAINER];
             match prosianek::write(kind, today, &sheet[..length], &mut written) {
                 Err(r) => {
-                    refused("write", r);
+                    refused(out, "write", r)?;
                     off = true;
                 }
                 Ok(length) if written[..length] == container[..] => {
-                    println!("write: the container came back byte for byte")
+                    writeln!(out, "write: the container came back byte for byte")?
                 }
                 Ok(_) => {
-                    println!("write: the container did not come back");
+                    writeln!(out, "write: the container did not come back")?;
                     off = true;
                 }
             }
@@ -91,47 +101,48 @@ fn main() {
     }
 
     let tag = tag_of(kind);
-    let view = prosianek::view(kind, today, &container, tag);
+    let view = prosianek::view(kind, today, container, tag);
     off |= view.clone().map(|_| ()) != verdict;
     match view {
-        Err(r) => refused("view", r),
+        Err(r) => refused(out, "view", r)?,
         Ok(range) => {
-            println!(
-                "view: tag {tag:02X} has {} bytes at {}",
-                range.len(),
-                range.start
-            );
+            let (length, start) = (range.len(), range.start);
+            writeln!(out, "view: tag {tag:02X} has {length} bytes at {start}")?;
             if kind == prosianek::CHUID {
-                off |= !there_and_back(&container[range]);
+                off |= !there_and_back(out, &container[range])?;
             }
         }
     }
-    exit(off as i32)
+    Ok(!off && verdict.is_ok())
 }
 
 /// Decodes a FASC-N and encodes it again; whether it came back.
-fn there_and_back(fascn: &[u8]) -> bool {
+fn there_and_back(out: &mut impl Write, fascn: &[u8]) -> io::Result<bool> {
     let numbers = match prosianek::decode(fascn) {
         Ok(numbers) => numbers,
         Err(r) => {
-            refused("decode", r);
-            return false;
+            refused(out, "decode", r)?;
+            return Ok(false);
         }
     };
-    println!("decode: agency {:04}, system {:04}", numbers[0], numbers[1]);
+    writeln!(
+        out,
+        "decode: agency {:04}, system {:04}",
+        numbers[0], numbers[1]
+    )?;
     let mut room = [0; prosianek::FASCN_BYTES];
     match prosianek::encode(&numbers, &mut room) {
         Err(r) => {
-            refused("encode", r);
-            false
+            refused(out, "encode", r)?;
+            Ok(false)
         }
         Ok(()) if room[..] == *fascn => {
-            println!("encode: the FASC-N came back byte for byte");
-            true
+            writeln!(out, "encode: the FASC-N came back byte for byte")?;
+            Ok(true)
         }
         Ok(()) => {
-            println!("encode: the FASC-N did not come back");
-            false
+            writeln!(out, "encode: the FASC-N did not come back")?;
+            Ok(false)
         }
     }
 }

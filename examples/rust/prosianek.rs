@@ -1,5 +1,5 @@
 //! The seven calls of Prosianek for Rust: safe functions over include/prosianek.h, which says more of each. To use them in a
-//! project of your own, copy this file, and give rustc the folder of libcapi.a (`-L native=target/staticlib`).
+//! project of your own, copy this file, and give rustc the folder of libprosianek.a (`-L native=FOLDER`).
 //!
 //! What C callers have to see to, Rust's references bring: they are valid and never null, and what is lent for writing
 //! overlaps nothing. So nothing is asked of a caller here, and every input gets an answer.
@@ -31,7 +31,7 @@ pub struct Refused {
 }
 
 // The functions themselves, as the header declares them.
-#[link(name = "capi", kind = "static")]
+#[link(name = "prosianek", kind = "static")]
 extern "C" {
     pub fn prosianek_check(
         kind: u64,

@@ -15,10 +15,22 @@ fn print(input: &[u8], got: usize, text: &[u8])
     }
 }
 
+// Whether standard input is at its end. `read_full` stops at a read that fails as it stops at the end; one more read tells the
+// two apart.
+fn at_end() -> bool {
+    let mut more = [0u8; 1];
+    libc::read(STDIN_FILENO, &mut more) == 0
+}
+
 fn main() {
     let mut input = [0u8; 32778];
     let mut room = [0u8; 512];
     let got = io::read_full(STDIN_FILENO, &mut input);
+    // a full buffer holds a container that is too large, whatever follows
+    if got < input.len() && !at_end() {
+        io::write_all(STDERR_FILENO, b"desk: the input could not be read whole\n");
+        return;
+    }
     let n = printout::answer(&input[..got], &mut room);
     print(&input, got, &room[..n]);
 }
