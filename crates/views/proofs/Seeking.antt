@@ -12,7 +12,7 @@ use Rattle.laws.proofs.Cases.{which}
 use Rattle.kinds.specs.Tables.{Entry, Table, table, first, rowAt}
 use Rattle.kinds.specs.declared.Place.the-variants.{Holds, End}
 use Rattle.container.specs.Container.{Values, Conforms}
-use Rattle.container.specs.Places.{start, begin, past, partOf, foundAt, Inside, firstElement}
+use Rattle.container.specs.Places.{start, past, partOf, foundAt, Inside, firstElement}
 use Rattle.container.specs.declared.Found.{Found}
 use Rattle.container.specs.declared.Found.the-variants.{At, Absent}
 use Rattle.container.proofs.Walk.{From, starts, dropped, skipped, met}

@@ -2,7 +2,7 @@
 use Prim.Native.Nat.{ℕ}
 use mathlib.Core.Path.{_≡_, refl, sym, ap, _∙_}
 use lib.ListN.{length}
-use Rattle.verdicts.specs.Output.{Output, doneOf}
+use Rattle.verdicts.specs.Output.{doneOf}
 use Rattle.verdicts.specs.declared.Done.{Done}
 use Rattle.report.specs.Calls.{reportOutput}
 use Rattle.report.proofs.Answers.{report-cases}

@@ -1,12 +1,12 @@
 -- `fascn::is_fascn` meets its contract. Assumes nothing.
-use mathlib.Core.Path.{_≡_, ap, _∙_}
+use mathlib.Core.Path.{ap, _∙_}
 use mathlib.Core.List.{map}
 use native.Mathlib.Omega.{arith}
 use denote.Ref.{now}
 use borrow.Author.Needs.{needs}
 use Rattle.laws.proofs.Bases.{below-of}
 use Rattle.laws.proofs.Turns.{rest}
-use Rattle.fascn.specs.Reading.{valueOf, valuesOf, framed}
+use Rattle.fascn.specs.Reading.{valueOf, framed}
 use Rattle.fascn.proofs.Packing.{values-groups}
 use Rattle.fascn.proofs.Codec.{no-fascn, is-framed-fascn}
 use Rattle.fascn.proofs.is_fascn.Statement.{statement}
