@@ -20,8 +20,8 @@ use Rattle.kinds.specs.declared.ValueRule.{ValueRule}
 use Rattle.rules.specs.Rules.{ruleOf}
 use Rattle.rules.proofs.Exact.{broken-exact}
 use Rattle.verdicts.specs.declared.Fault.{Fault}
-use Rattle.verdicts.specs.declared.Rule.{Rule}
-use Rattle.verdicts.specs.declared.Rule.the-variants.{Kept, Breaks}
+use Rattle.verdicts.specs.declared.Ruling.{Ruling}
+use Rattle.verdicts.specs.declared.Ruling.the-variants.{Kept, Breaks}
 use Rattle.container.specs.Reading.{broken, ended, sized, within, element}
 use Rattle.container.specs.InOrder.{IsLength, Faulty, no-length, past-end, not-permitted, bad-value}
 use Rattle.container.proofs.One.{no-whole, permitted-exact}
@@ -53,9 +53,9 @@ module _ (l : Lengths) (rule : ValueRule) (today : ℕ) (f : Fault) where
   fault-is : {g : Fault} → broken g ≡ broken f → f ≡ g
   fault-is e = cc
 
-  ended-broken : (v : List ℕ) (size : ℕ) (r : Rule) → ended v size r ≡ broken f → r ≡ Breaks f
-  ended-broken v size Kept e = absurd (no-whole (sym e))
-  ended-broken v size (Breaks g) e = ap Breaks (sym (fault-is e))
+  ended-broken : (w : ℕ) (v : List ℕ) (r : Ruling) → ended w v r ≡ broken f → r ≡ Breaks f
+  ended-broken w v Kept e = absurd (no-whole (sym e))
+  ended-broken w v (Breaks g) e = ap Breaks (sym (fault-is e))
 
   broken-faulty : (s : List ℕ) → Bytes s → element l rule today s ≡ broken f → Faulty l rule today s f
   unfolding element
@@ -77,7 +77,7 @@ module _ (l : Lengths) (rule : ValueRule) (today : ℕ) (f : Fault) where
                 let bv : Bytes v = below-take 256 n body (below-drop 256 (m .width) s b) in
                 let z : sized l rule today (m .width) v ≡ broken f = rw (le-ltb _ _ k) at e′ in
                 elim (which (permitted l (length v))) [
-                  | inl p ↦ bad-value v (drop n body) i (permitted-exact l (length v) .0 p) (broken-exact rule today v bv f .0 (ended-broken v (m .width + length v) (ruleOf rule today v) (rw p at z)))
+                  | inl p ↦ bad-value v (drop n body) i (permitted-exact l (length v) .0 p) (broken-exact rule today v bv f .0 (ended-broken (m .width) v (ruleOf rule today v) (rw p at z)))
                   | inr p ↦ not-permitted v (drop n body) i (λ x. true≢false (sym (permitted-exact l (length v) .1 x) ∙ p)) (fault-is (rw p at z))
                 ]
           ]

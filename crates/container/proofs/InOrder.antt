@@ -16,10 +16,12 @@ use Rattle.laws.proofs.Bases.{below-drop}
 use Rattle.laws.proofs.Cases.{which}
 use Rattle.lengths.specs.Length.{lengthBytes}
 use Rattle.kinds.specs.Tables.{Entry, Table}
+use Rattle.verdicts.specs.Verdicts.{found}
+use Rattle.verdicts.specs.declared.Finding.{Finding}
 use Rattle.verdicts.specs.declared.Fault.{Fault}
 use Rattle.verdicts.specs.declared.Fault.the-variants.{UnknownTag, TagOrder, MissingRow}
 use Rattle.container.specs.Container.{Values, tagBytes, long, has, tagHere, encode, Allowed}
-use Rattle.container.specs.Reading.{Parsed, values, fault, prepend, Element, whole, broken, element, misplaced, follow, parse}
+use Rattle.container.specs.Reading.{Parsed, values, fault, Part, prepend, Element, whole, broken, element, misplaced, follow, parse}
 use Rattle.container.specs.InOrder.{Owed, AtFault, not-in-table, not-to-come, passed-over, in-row, Wrong, First}
 use Rattle.container.proofs.Tags.{tag-is}
 use Rattle.container.proofs.One.{element-is, good-fits}
@@ -62,31 +64,31 @@ module _ (today : ℕ) (all : Table) (t : ℕ) (s : List ℕ) where
 
 -- ---- the first broken rule
 
-fault-of : (o : Option (List ℕ)) (x : Parsed) {f : Fault} {p : ℕ} → prepend o x ≡ fault f p → x ≡ fault f p
+fault-of : (o : Option Part) (x : Parsed Part) {f : Finding} → prepend o x ≡ fault f → x ≡ fault f
 fault-of o (values vs) e = let z : _≡_ {A = ℕ} 0 1 = cc in absurd (omega arith)
-fault-of o (fault g q) e = e
+fault-of o (fault g) e = e
 
-pub place-of : {f g : Fault} {p q : ℕ} → fault f p ≡ fault g q → q ≡ p
-place-of e = cc
-
-pub fault-is : {f g : Fault} {p q : ℕ} → fault f p ≡ fault g q → g ≡ f
-fault-is e = cc
+pub finding-is : {A : Type 0} {f g : Finding} → _≡_ {A = Parsed A} (fault f) (fault g) → g ≡ f
+finding-is e = cc
 
 -- the fault of what stands at once
-at-once : (today : ℕ) (all rest : Table) (at : ℕ) (s : List ℕ) (f : Fault) (p : ℕ) → p ≡ at → Wrong today all rest s f → First today all rest at s f p
-at-once today all rest at s f p z w =
-    record { rows = []; later = rest; vs = []; split = refl; allowed = tt; last = tt; place-is = z ∙ omega arith; written = refl; wrong = w }
+at-once : (today : ℕ) (all rest : Table) (at : ℕ) (s : List ℕ) {f : Finding} {g : Fault} → f ≡ found g at → Wrong today all rest s g → First today all rest at s f
+at-once today all rest at s {f} {g} e w =
+    let z : f .place ≡ at = ap (λ (x : Finding). x .place) e in
+    let q : f .fault ≡ g = ap (λ (x : Finding). x .fault) e in
+    record { rows = []; later = rest; vs = []; split = refl; allowed = tt; last = tt; place-is = z ∙ omega arith; written = refl; wrong = rw q w }
 
 -- an optional row without an element
-skip : (today : ℕ) (all : Table) (r : Entry) (rs : Table) (at : ℕ) (s : List ℕ) (f : Fault) (p : ℕ) → r .optional ≡ true → (Wrong today all rs s f → Wrong today all (r ∷ rs) s f)
-    → First today all rs at s f p → First today all (r ∷ rs) at s f p
-skip today all r rs at s f p o k b = go (b .rows) (b .vs) refl refl (b .allowed)
+skip : (today : ℕ) (all : Table) (r : Entry) (rs : Table) (at : ℕ) (s : List ℕ) (f : Finding) → r .optional ≡ true → (Wrong today all rs s (f .fault) → Wrong today all (r ∷ rs) s (f .fault))
+    → First today all rs at s f → First today all (r ∷ rs) at s f
+skip today all r rs at s f o k b = go (b .rows) (b .vs) refl refl (b .allowed)
   where
-    go : (rows : Table) (vs : Values) → b .rows ≡ rows → b .vs ≡ vs → Allowed today rows vs → First today all (r ∷ rs) at s f p
+    go : (rows : Table) (vs : Values) → b .rows ≡ rows → b .vs ≡ vs → Allowed today rows vs → First today all (r ∷ rs) at s f
     go [] [] m n a =
-        let z : p ≡ at + length (encode [] []) = b .place-is ∙ rw m in
+        let z : f .place ≡ at + length (encode [] []) = b .place-is ∙ rw m in
+        let y : f .place ≡ at = omega (arith, z) in
         let e : b .later ≡ rs = sym (b .split ∙ rw m) in
-        at-once today all (r ∷ rs) at s f p (omega (arith, z)) (k (rw (m, e) at (b .wrong)))
+        at-once today all (r ∷ rs) at s (ap (found (f .fault)) y) (k (rw (m, e) at (b .wrong)))
     go [] (v ∷ vs) m n a = absurd a
     go (y ∷ ys) [] m n a = absurd a
     go (y ∷ ys) (v ∷ vs) m n a =
@@ -103,22 +105,23 @@ skip today all r rs at s f p o k b = go (b .rows) (b .vs) refl refl (b .allowed)
         }
 
 -- the end of the bytes
-at-end : (today : ℕ) (all : Table) (at : ℕ) (rest : Table) {f : Fault} {p : ℕ} → parse today all rest at [] ≡ fault f p → Owed rest × (f ≡ MissingRow) × (p ≡ at)
+at-end : (today : ℕ) (all : Table) (at : ℕ) (rest : Table) {f : Finding} → parse today all rest at [] ≡ fault f → Owed rest × (f ≡ found MissingRow at)
 at-end today all at [] e = let z : _≡_ {A = ℕ} 0 1 = cc in absurd (omega arith)
-at-end today all at (r ∷ rs) {f} {p} e =
+at-end today all at (r ∷ rs) {f} e =
     elim (which (r .optional)) [
-      | inl o ↦ let h = at-end today all at rs (fault-of none (parse today all rs at []) (rw o at e)) in (inr (h .0), h .1, h .2)
-      | inr o ↦ let q : fault MissingRow at ≡ fault f p = rw o at e in (inl o, fault-is q, place-of q)
+      | inl o ↦ let h = at-end today all at rs (fault-of none (parse today all rs at []) (rw o at e)) in (inr (h .0), h .1)
+      | inr o ↦ (inl o, finding-is (rw o at e))
     ]
 
 module _ (today : ℕ) (all : Table) where
-  after-element : (r : Entry) (rs : Table) (at x : ℕ) (s : List ℕ) → Bytes (x ∷ s) → tagHere all x s ≡ r .tag → (v : List ℕ) (n p : ℕ)
-      → element (r .lengths) (r .rule) today (drop (long (r .tag)) (x ∷ s)) ≡ whole v n
-      → (f : Fault) → First today all rs (at + (long (r .tag) + n)) (drop (long (r .tag) + n) (x ∷ s)) f p → First today all (r ∷ rs) at (x ∷ s) f p
-  after-element r rs at x s b q v n p e f w =
+  after-element : (r : Entry) (rs : Table) (at x : ℕ) (s : List ℕ) → Bytes (x ∷ s) → tagHere all x s ≡ r .tag → (w : ℕ) (v : List ℕ)
+      → element (r .lengths) (r .rule) today (drop (long (r .tag)) (x ∷ s)) ≡ whole w v
+      → (f : Finding) → First today all rs (at + long (r .tag) + (w + length v)) (drop (long (r .tag) + (w + length v)) (x ∷ s)) f → First today all (r ∷ rs) at (x ∷ s) f
+  after-element r rs at x s b q u v e f w =
+      let n = u + length v in
       let body = drop (long (r .tag)) (x ∷ s) in
       let bb : Bytes body = below-drop 256 (long (r .tag)) (x ∷ s) b in
-      let g = element-is (r .lengths) (r .rule) today body bb v n e in
+      let g = element-is (r .lengths) (r .rule) today body bb u v e in
       let t : x ∷ s ≡ tagBytes (r .tag) ++ body = rw q at (tag-is all x s (b .0)) in
       let bv : Bytes v = bytes-front v (drop n body) (bytes-back (lengthBytes (length v)) (v ++ drop n body) (rw (g .2) at bb)) in
       let y : List ℕ = drop n body in
@@ -151,30 +154,30 @@ module _ (today : ℕ) (all : Table) where
   own r rs x s b q {f} e =
       in-row [] r rs refl q (λ h. h) (rw q (faulty-exact (r .lengths) (r .rule) today (drop (long (r .tag)) (x ∷ s)) (below-drop 256 (long (r .tag)) (x ∷ s) b) f .0 e))
 
-  follow-fault : (at : ℕ) (x : Element) (k : ℕ → Parsed) {f : Fault} {p : ℕ} → follow at x k ≡ fault f p
-      → {P : Type 0} → (x ≡ broken f → p ≡ at → P) → ((v : List ℕ) (n : ℕ) → x ≡ whole v n → k n ≡ fault f p → P) → P
-  follow-fault at (whole v n) k e here on = on v n refl (fault-of (some v) (k n) e)
-  follow-fault at (broken g) k e here on = here (ap broken (sym (fault-is e))) (place-of e)
+  follow-fault : (at start : ℕ) (x : Element) (k : ℕ → Parsed Part) {f : Finding} → follow at start x k ≡ fault f
+      → {P : Type 0} → ((g : Fault) → x ≡ broken g → f ≡ found g at → P) → ((w : ℕ) (v : List ℕ) → x ≡ whole w v → k (w + length v) ≡ fault f → P) → P
+  follow-fault at start (whole w v) k e here on = on w v refl (fault-of (some (record { offset = start + w; bytes = v })) (k (w + length v)) e)
+  follow-fault at start (broken g) k e here on = here g refl (finding-is e)
 
-  ended : (rest : Table) (at : ℕ) (f : Fault) (p : ℕ) → parse today all rest at [] ≡ fault f p → First today all rest at [] f p
-  ended rest at f p e = let h = at-end today all at rest e in at-once today all rest at [] f p (h .2) (h .0, h .1)
+  ended : (rest : Table) (at : ℕ) (f : Finding) → parse today all rest at [] ≡ fault f → First today all rest at [] f
+  ended rest at f e = let h = at-end today all at rest e in at-once today all rest at [] (h .1) (h .0, refl)
 
   -- the fault that is read is the first one
-  pub first : (rest : Table) (at : ℕ) (s : List ℕ) → Bytes s → (f : Fault) (p : ℕ) → parse today all rest at s ≡ fault f p → First today all rest at s f p
-  first [] at [] b f p e = ended [] at f p e
-  first [] at (x ∷ s) b f p e = at-once today all [] at (x ∷ s) f p (place-of e) (rw (fault-is e) (gone-wrong today all (tagHere all x s) _ [] refl))
-  first (r ∷ rs) at [] b f p e = ended (r ∷ rs) at f p e
-  first (r ∷ rs) at (x ∷ s) b f p e =
+  pub first : (rest : Table) (at : ℕ) (s : List ℕ) → Bytes s → (f : Finding) → parse today all rest at s ≡ fault f → First today all rest at s f
+  first [] at [] b f e = ended [] at f e
+  first [] at (x ∷ s) b f e = at-once today all [] at (x ∷ s) (finding-is e) (gone-wrong today all (tagHere all x s) _ [] refl)
+  first (r ∷ rs) at [] b f e = ended (r ∷ rs) at f e
+  first (r ∷ rs) at (x ∷ s) b f e =
       elim (which (eqb (tagHere all x s) (r .tag))) [
         | inl q ↦
-            follow-fault at (element (r .lengths) (r .rule) today (drop (long (r .tag)) (x ∷ s))) (λ n. parse today all rs (at + (long (r .tag) + n)) (drop (long (r .tag) + n) (x ∷ s))) (rw q at e)
-            (λ w z. at-once today all (r ∷ rs) at (x ∷ s) f p z (own r rs x s b (eqb-true _ _ q) w))
-            (λ v n w m. after-element r rs at x s b (eqb-true _ _ q) v n p w f (first rs (at + (long (r .tag) + n)) (drop (long (r .tag) + n) (x ∷ s)) (below-drop 256 (long (r .tag) + n) (x ∷ s) b) f p m))
+            follow-fault at (at + long (r .tag)) (element (r .lengths) (r .rule) today (drop (long (r .tag)) (x ∷ s))) (λ n. parse today all rs (at + long (r .tag) + n) (drop (long (r .tag) + n) (x ∷ s))) (rw q at e)
+            (λ g w z. at-once today all (r ∷ rs) at (x ∷ s) z (own r rs x s b (eqb-true _ _ q) w))
+            (λ w v z m. after-element r rs at x s b (eqb-true _ _ q) w v z f (first rs (at + long (r .tag) + (w + length v)) (drop (long (r .tag) + (w + length v)) (x ∷ s)) (below-drop 256 (long (r .tag) + (w + length v)) (x ∷ s) b) f m))
         | inr q ↦
             elim (which (r .optional)) [
-              | inl o ↦ skip today all r rs at (x ∷ s) f p o (passing today all (tagHere all x s) _ r rs q o) (first rs at (x ∷ s) b f p (fault-of none (parse today all rs at (x ∷ s)) (rw (q, o) at e)))
+              | inl o ↦ skip today all r rs at (x ∷ s) f o (passing today all (tagHere all x s) _ r rs q o) (first rs at (x ∷ s) b f (fault-of none (parse today all rs at (x ∷ s)) (rw (q, o) at e)))
               | inr o ↦
-                  let z : fault (misplaced all rs (tagHere all x s)) at ≡ fault f p = rw (q, o) at e in
-                  at-once today all (r ∷ rs) at (x ∷ s) f p (place-of z) (rw (fault-is z) (missing today all (tagHere all x s) _ r rs q o))
+                  let z : fault (found (misplaced all rs (tagHere all x s)) at) ≡ fault f = rw (q, o) at e in
+                  at-once today all (r ∷ rs) at (x ∷ s) (finding-is z) (missing today all (tagHere all x s) _ r rs q o)
             ]
       ]

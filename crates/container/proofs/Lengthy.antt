@@ -19,9 +19,9 @@ use Rattle.kinds.specs.declared.ValueRule.{ValueRule}
 use Rattle.rules.specs.Rules.{ruleOf}
 use Rattle.verdicts.specs.declared.Fault.{Fault}
 use Rattle.verdicts.specs.declared.Fault.the-variants.{LengthForm, Overrun, ElementLength}
-use Rattle.verdicts.specs.declared.Rule.the-variants.{Kept, Breaks}
+use Rattle.verdicts.specs.declared.Ruling.the-variants.{Kept, Breaks}
 use Rattle.container.specs.Reading.{element, within}
-use Rattle.container.specs.Step.{valueAt, lengthsOf}
+use Rattle.container.specs.Map.{valueAt, lengthsOf}
 use Rattle.container.specs.declared.Value.the-variants.{Bad, Whole}
 
 module _ (c : List ℕ) (at least most : ℕ) (empty : Bool) (rule : ValueRule) (today : ℕ) where
@@ -73,6 +73,8 @@ module _ (c : List ℕ) (at least most : ℕ) (empty : Bool) (rule : ValueRule) 
         unfolding valueAt
         broke e = rw is (simp (le-ltb _ _ fits, p′, ← e))
 
-        pub ends : Kept ≡ ruleOf rule today value → Whole (next + n) ≡ valueAt at (element (lengthsOf least most empty) rule today (drop at c))
+        pub ends : Kept ≡ ruleOf rule today value → Whole next (next + n) ≡ valueAt at (element (lengthsOf least most empty) rule today (drop at c))
         unfolding valueAt
-        ends e = rw is (simp (le-ltb _ _ fits, p′, ← e) (ap Whole (rw long (omega (arith, spelt .2)))))
+        ends e =
+            let z : at + spelt .0 ≡ next = omega (arith, spelt .2) in
+            rw is (simp (le-ltb _ _ fits, p′, ← e) (rw (long, z)))

@@ -4,11 +4,11 @@ pub mod Tags
 pub mod Exact
 pub mod Promise
 pub mod Lengthy
+pub mod Noting
 pub mod Turn
 pub mod Ways
-pub mod Places
 pub mod Faults
 pub mod InOrder
-pub mod Walk
-pub mod Passing
 pub mod Named
+pub mod TempRow
+pub mod Lying

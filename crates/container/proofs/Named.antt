@@ -16,23 +16,19 @@ use Rattle.lengths.specs.Length.{lengthBytes}
 use Rattle.dates.specs.Date.{IsDate, isDate}
 use Rattle.dates.proofs.Dates.{date-exact}
 use Rattle.kinds.specs.Tables.{Entry, Table, table, IsKind, isKind}
+use Rattle.verdicts.specs.Verdicts.{found}
+use Rattle.verdicts.specs.declared.Finding.{Finding}
 use Rattle.verdicts.specs.declared.Fault.{Fault}
 use Rattle.verdicts.specs.declared.Fault.the-variants.{UnknownTag, TagOrder, MissingRow}
-use Rattle.verdicts.specs.declared.Outcome.the-variants.{Broken}
 use Rattle.container.specs.Container.{Values, tagBytes, long, has, tagHere, encode, outerTag, Allowed, largest}
-use Rattle.container.specs.Reading.{Parsed, values, fault, prepend, broken, element, parse, outer, parsed, outcomeOf}
+use Rattle.container.specs.Reading.{fault, prepend, broken, element, parse, outer, located, parsed}
 use Rattle.container.specs.InOrder.{Owed, not-in-table, not-to-come, passed-over, in-row, Wrong, LastThere, First, Named, no-kind, no-date, too-large, outer-tag, outer-length, outer-end, in-element}
 use Rattle.container.proofs.Rows.{Distinct, gone}
 use Rattle.container.proofs.Tags.{Tags, tags, distinct, begins}
 use Rattle.container.proofs.One.{fits-good}
-use Rattle.container.proofs.Exact.{Apart, skips, takes, size, bytes-front, bytes-back}
+use Rattle.container.proofs.Exact.{Apart, skips, partAt, takes, size, bytes-front, bytes-back}
 use Rattle.container.proofs.Faults.{length-read, none-read, faulty-exact}
 use Rattle.container.proofs.Promise.{kind-exact, named}
-
--- a fault that is judged is what was read
-pub broken-fault : (x : Parsed) (f : Fault) (p : ℕ) → outcomeOf x ≡ Broken f p → x ≡ fault f p
-broken-fault (values vs) f p e = let z : _≡_ {A = ℕ} 0 1 = cc in absurd (omega arith)
-broken-fault (fault g q) f p e = cc
 
 -- a mandatory row is not the optional one
 later : (r : Entry) (rs : Table) → r .optional ≡ true → Owed (r ∷ rs) → Owed rs
@@ -48,7 +44,7 @@ has-mid (x ∷ xs) r after = elim (which (eqb (r .tag) (x .tag))) [
 
 module _ (today : ℕ) (all : Table) where
   -- at the end of the bytes
-  owing : (rest : Table) (at : ℕ) → Owed rest → parse today all rest at [] ≡ fault MissingRow at
+  owing : (rest : Table) (at : ℕ) → Owed rest → parse today all rest at [] ≡ fault (found MissingRow at)
   owing [] at h = absurd h
   owing (r ∷ rs) at h = elim (which (r .optional)) [
     | inl o ↦ rw o (ap (prepend none) (owing rs at (later r rs o h)))
@@ -68,7 +64,7 @@ module _ (today : ℕ) (all : Table) where
     owed x xs o (inl (w, e)) = e
     owed x xs o (inr (n, e)) = absurd (n (inl o))
 
-    to-row : (before : Table) → Distinct (before ++ (r ∷ after)) → Stops before → parse today all (before ++ (r ∷ after)) at (b ∷ s) ≡ fault f at
+    to-row : (before : Table) → Distinct (before ++ (r ∷ after)) → Stops before → parse today all (before ++ (r ∷ after)) at (b ∷ s) ≡ fault (found f at)
     to-row [] d (inl (w, e)) = absurd w
     to-row [] d (inr (n, e)) = rw (eq-eqb _ _ z, e)
     to-row (x ∷ xs) d c =
@@ -84,11 +80,11 @@ module _ (today : ℕ) (all : Table) where
 
   module _ (f : Fault) where
     none-to-come : (rest : Table) (at b : ℕ) (s : List ℕ) → has (tagHere all b s) rest ≡ false → f ≡ cond (has (tagHere all b s) all) TagOrder UnknownTag
-        → parse today all rest at (b ∷ s) ≡ fault f at
-    none-to-come rest at b s h e = broken-fault (parse today all rest at (b ∷ s)) f at (gone today all at b s rest h ∙ ap (λ (g : Fault). Broken g at) (sym e))
+        → parse today all rest at (b ∷ s) ≡ fault (found f at)
+    none-to-come rest at b s h e = gone today all at b s rest h ∙ ap (λ (g : Fault). fault (found g at)) (sym e)
 
-    here : (rest : Table) (at : ℕ) (s : List ℕ) → Bytes s → Distinct rest → ((t : ℕ) → has t all ≡ false → has t rest ≡ false) → Wrong today all rest s f → parse today all rest at s ≡ fault f at
-    here rest at [] u d k w = owing rest at (w .0) ∙ ap (λ (g : Fault). fault g at) (sym (w .1))
+    here : (rest : Table) (at : ℕ) (s : List ℕ) → Bytes s → Distinct rest → ((t : ℕ) → has t all ≡ false → has t rest ≡ false) → Wrong today all rest s f → parse today all rest at s ≡ fault (found f at)
+    here rest at [] u d k w = owing rest at (w .0) ∙ ap (λ (g : Fault). fault (found g at)) (sym (w .1))
     here rest at (b ∷ s) u d k (not-in-table h e) = none-to-come rest at b s (k _ h) (rw h e)
     here rest at (b ∷ s) u d k (not-to-come h g e) = none-to-come rest at b s g (rw h e)
     here rest at (b ∷ s) u d k (passed-over before r after q z w e) =
@@ -118,7 +114,7 @@ module _ (today : ℕ) (all : Table) where
 
     back : (rows later : Table) (vs : Values) (at : ℕ) (t : List ℕ) → Tags all rows → Distinct (rows ++ later) → ((t : ℕ) → has t all ≡ false → has t later ≡ false)
         → Allowed today rows vs → LastThere vs → Bytes (encode rows vs ++ t) → length (encode rows vs) < 65536 → Wrong today all later t f
-        → parse today all (rows ++ later) at (encode rows vs ++ t) ≡ fault f (at + length (encode rows vs))
+        → parse today all (rows ++ later) at (encode rows vs ++ t) ≡ fault (found f (at + length (encode rows vs)))
     back [] later [] at t p d k a l b h w =
         let z : at + 0 ≡ at = omega arith in
         rw z (here later at t b d k w)
@@ -137,10 +133,10 @@ module _ (today : ℕ) (all : Table) where
         let e : (tagBytes (r .tag) ++ (head ++ (v ++ rest))) ++ t ≡ tagBytes (r .tag) ++ (head ++ (v ++ (rest ++ t))) =
         append-assoc (tagBytes (r .tag)) (head ++ (v ++ rest)) t ∙ rw (append-assoc head (v ++ rest) t, append-assoc v rest t) in
         let b₁ : Bytes (v ++ (rest ++ t)) = bytes-back head (v ++ (rest ++ t)) (bytes-back (tagBytes (r .tag)) (head ++ (v ++ (rest ++ t))) (rw e at b)) in
-        let z : at + length (tagBytes (r .tag) ++ (head ++ (v ++ rest))) ≡ at + (long (r .tag) + size today all v) + length rest = omega (arith, x, y, m) in
+        let z : at + length (tagBytes (r .tag) ++ (head ++ (v ++ rest))) ≡ at + long (r .tag) + size today all v + length rest = omega (arith, x, y, m) in
         rw (e, z)
         (takes today all r (rs ++ later) at v (rest ++ t) (p .0) (omega (arith, x, y, m)) (fits-good today r v (bytes-front v (rest ++ t) b₁) (a .0))
-        ∙ ap (prepend (some v)) (back rs later vs (at + (long (r .tag) + size today all v)) t (p .1) (d .1) k (a .1) l (bytes-back v (rest ++ t) b₁) (omega (arith, x, y, m)) w))
+        ∙ ap (prepend (partAt today all (at + long (r .tag)) v)) (back rs later vs (at + long (r .tag) + size today all v) t (p .1) (d .1) k (a .1) l (bytes-back v (rest ++ t) b₁) (omega (arith, x, y, m)) w))
 
 -- ---- rows before and after
 
@@ -158,8 +154,8 @@ has-later t (r ∷ rs) later h =
 
 -- ---- the theorem
 
-module _ (kind today : ℕ) (f : Fault) (p : ℕ) where
-  in-elements : (at : ℕ) (s : List ℕ) → Bytes s → length s ≤ largest → First today (table kind) (table kind) at s f p → parse today (table kind) (table kind) at s ≡ fault f p
+module _ (kind today : ℕ) (f : Finding) where
+  in-elements : (at : ℕ) (s : List ℕ) → Bytes s → length s ≤ largest → First today (table kind) (table kind) at s f → parse today (table kind) (table kind) at s ≡ fault f
   in-elements at s b l h =
       let e = encode (h .rows) (h .vs) in
       let t = drop (length e) s in
@@ -169,13 +165,13 @@ module _ (kind today : ℕ) (f : Fault) (p : ℕ) where
       let g : Tags (table kind) (h .rows) = tags-front (table kind) (h .rows) (h .later) (subst (Tags (table kind)) (h .split) (tags kind)) in
       ap (λ (x : Table). parse today (table kind) x at s) (h .split)
       ∙ ap (parse today (table kind) (h .rows ++ h .later) at) q
-      ∙ back today (table kind) f (h .rows) (h .later) (h .vs) at t g d (λ u z. has-later u (h .rows) (h .later) (sym (ap (has u) (h .split)) ∙ z)) (h .allowed) (h .last)
+      ∙ back today (table kind) (f .fault) (h .rows) (h .later) (h .vs) at t g d (λ u z. has-later u (h .rows) (h .later) (sym (ap (has u) (h .split)) ∙ z)) (h .allowed) (h .last)
       (rw q at b) n (h .wrong)
-      ∙ ap (fault f) (sym (h .place-is))
+      ∙ ap (λ (p : ℕ). fault (found (f .fault) p)) (sym (h .place-is))
 
-  passed : (c : List ℕ) → IsKind kind → IsDate today → length c ≤ largest → outer kind today c ≡ fault f p → parsed kind today c ≡ fault f p
-  unfolding parsed
-  passed c k d l e = rw (kind-exact kind .1 k, date-exact today .1 d, le-leb _ _ l) e
+  passed : (c : List ℕ) → IsKind kind → IsDate today → length c ≤ largest → outer kind today c ≡ fault f → parsed kind today c ≡ fault f
+  unfolding parsed located
+  passed c k d l e = rw (kind-exact kind .1 k, date-exact today .1 d, le-leb _ _ l, e)
 
   no-start : {x : ℕ} → [] ≡ x ∷ [] → ⊥
   no-start e = let z : _≡_ {A = ℕ} 0 1 = cc in omega arith
@@ -183,18 +179,18 @@ module _ (kind today : ℕ) (f : Fault) (p : ℕ) where
   tag-of : (t : ℕ) (s : List ℕ) → take 1 (t ∷ s) ≡ outerTag kind ∷ [] → t ≡ outerTag kind
   tag-of t s e = cc
 
-  pub named-back : (c : List ℕ) → Bytes c → Named kind today c f p → parsed kind today c ≡ fault f p
-  unfolding parsed
-  named-back c b (no-kind h e z) = rw (not-so (isKind kind) (λ k. h (kind-exact kind .0 k)), e, z)
-  named-back c b (no-date k h e z) = rw (kind-exact kind .1 k, not-so (isDate today) (λ d. h (date-exact today .0 d)), e, z)
-  named-back c b (too-large k d l e z) = rw (kind-exact kind .1 k, date-exact today .1 d, lt-leb _ _ l, e, z)
-  named-back [] b (outer-tag k d l h e z) = passed [] k d l (rw (e, z))
-  named-back (t ∷ s) b (outer-tag k d l h e z) = passed (t ∷ s) k d l (rw (ne-eqb t (outerTag kind) (λ q. h (ap (λ (x : ℕ). x ∷ []) q)), e, z))
-  named-back [] b (outer-length k d l h r e z) = absurd (no-start h)
-  named-back (t ∷ s) b (outer-length k d l h r e z) = passed (t ∷ s) k d l (rw (eq-eqb t (outerTag kind) (tag-of t s h), none-read s (b .1) .1 r, e, z))
-  named-back [] b (outer-end k d l h n r c m e z) = absurd (no-start h)
-  named-back (t ∷ s) b (outer-end k d l h n r c m e z) =
-      passed (t ∷ s) k d l (rw (eq-eqb t (outerTag kind) (tag-of t s h), length-read n r c .0, ne-eqb (length s) (length (lengthBytes n) + n) (λ q. m (omega (arith, q, ap length (c .1), length-append (lengthBytes n) r))), e, z))
+  pub named-back : (c : List ℕ) → Bytes c → Named kind today c f → parsed kind today c ≡ fault f
+  unfolding parsed located
+  named-back c b (no-kind h e) = rw (not-so (isKind kind) (λ k. h (kind-exact kind .0 k)), e)
+  named-back c b (no-date k h e) = rw (kind-exact kind .1 k, not-so (isDate today) (λ d. h (date-exact today .0 d)), e)
+  named-back c b (too-large k d l e) = rw (kind-exact kind .1 k, date-exact today .1 d, lt-leb _ _ l, e)
+  named-back [] b (outer-tag k d l h e) = passed [] k d l (rw e)
+  named-back (t ∷ s) b (outer-tag k d l h e) = passed (t ∷ s) k d l (rw (ne-eqb t (outerTag kind) (λ q. h (ap (λ (x : ℕ). x ∷ []) q)), e))
+  named-back [] b (outer-length k d l h r e) = absurd (no-start h)
+  named-back (t ∷ s) b (outer-length k d l h r e) = passed (t ∷ s) k d l (rw (eq-eqb t (outerTag kind) (tag-of t s h), none-read s (b .1) .1 r, e))
+  named-back [] b (outer-end k d l h n r c m e) = absurd (no-start h)
+  named-back (t ∷ s) b (outer-end k d l h n r c m e) =
+      passed (t ∷ s) k d l (rw (eq-eqb t (outerTag kind) (tag-of t s h), length-read n r c .0, ne-eqb (length s) (length (lengthBytes n) + n) (λ q. m (omega (arith, q, ap length (c .1), length-append (lengthBytes n) r))), e))
   named-back [] b (in-element k d l h n r c m w) = absurd (no-start h)
   named-back (t ∷ s) b (in-element k d l h n r c m w) =
       let y = length-read n r c in
@@ -204,5 +200,5 @@ module _ (kind today : ℕ) (f : Fault) (p : ℕ) where
       (in-elements (1 + length (lengthBytes n)) r (bytes-back (lengthBytes n) r (rw (c .1) at (b .1))) (omega (arith, ap length (c .1), x, l)) w))
 
 -- a fault is read exactly where it is the first that is broken
-pub named-exact : (kind today : ℕ) (c : List ℕ) → Bytes c → (f : Fault) (p : ℕ) → (parsed kind today c ≡ fault f p) ↔ Named kind today c f p
-named-exact kind today c b f p = (named kind today c b f p, named-back kind today f p c b)
+pub named-exact : (kind today : ℕ) (c : List ℕ) → Bytes c → (f : Finding) → (parsed kind today c ≡ fault f) ↔ Named kind today c f
+named-exact kind today c b f = (named kind today c b f, named-back kind today f c b)

@@ -20,12 +20,12 @@ use Rattle.kinds.specs.declared.ValueRule.{ValueRule}
 use Rattle.rules.specs.Rules.{ruleOf}
 use Rattle.rules.proofs.Exact.{value-exact}
 use Rattle.verdicts.specs.declared.Fault.{Fault}
-use Rattle.verdicts.specs.declared.Rule.{Rule}
-use Rattle.verdicts.specs.declared.Rule.the-variants.{Kept, Breaks}
+use Rattle.verdicts.specs.declared.Ruling.{Ruling}
+use Rattle.verdicts.specs.declared.Ruling.the-variants.{Kept, Breaks}
 use Rattle.container.specs.Container.{Fits}
 use Rattle.container.specs.Reading.{whole, broken, ended, sized, within, element}
 
-pub no-whole : {f : Fault} {v : List ℕ} {n : ℕ} → broken f ≡ whole v n → ⊥
+pub no-whole : {f : Fault} {w : ℕ} {v : List ℕ} → broken f ≡ whole w v → ⊥
 no-whole e = let z : _≡_ {A = ℕ} 0 1 = cc in omega arith
 
 -- ---- a permitted length
@@ -49,47 +49,45 @@ module _ (l : Lengths) (rule : ValueRule) (today : ℕ) where
   abbrev pub Good : List ℕ → Type 0
   Good v = (permitted l (length v) ≡ true) × (ruleOf rule today v ≡ Kept)
 
-  ended-is : (w v : List ℕ) (m n : ℕ) (r : Rule) → ended w m r ≡ whole v n → (w ≡ v) × (m ≡ n) × (r ≡ Kept)
-  ended-is w v m n Kept e = (cc, cc, refl)
-  ended-is w v m n (Breaks f) e = absurd (no-whole e)
+  ended-is : (m n : ℕ) (u v : List ℕ) (r : Ruling) → ended m u r ≡ whole n v → (u ≡ v) × (m ≡ n) × (r ≡ Kept)
+  ended-is m n u v Kept e = (cc, cc, refl)
+  ended-is m n u v (Breaks f) e = absurd (no-whole e)
 
-  sized-is : (width : ℕ) (w v : List ℕ) (n : ℕ) → sized l rule today width w ≡ whole v n → (w ≡ v) × (width + length w ≡ n) × Good w
-  sized-is width w v n e =
-      elim (which (permitted l (length w))) [
-        | inl p ↦ let r = ended-is w v (width + length w) n (ruleOf rule today w) (rw p at e) in (r .0, r .1, (p, r .2))
+  sized-is : (m n : ℕ) (u v : List ℕ) → sized l rule today m u ≡ whole n v → (u ≡ v) × (m ≡ n) × Good u
+  sized-is m n u v e =
+      elim (which (permitted l (length u))) [
+        | inl p ↦ let r = ended-is m n u v (ruleOf rule today u) (rw p at e) in (r .0, r .1, (p, r .2))
         | inr p ↦ absurd (no-whole (rw p at e))
       ]
 
-  -- what is read was written: n bytes
-  pub element-is : (s : List ℕ) → Bytes s → (v : List ℕ) (n : ℕ) → element l rule today s ≡ whole v n
-      → Good v × (n ≡ length (lengthBytes (length v)) + length v) × (s ≡ lengthBytes (length v) ++ (v ++ drop n s))
+  -- what is read was written
+  pub element-is : (s : List ℕ) → Bytes s → (w : ℕ) (v : List ℕ) → element l rule today s ≡ whole w v
+      → Good v × (w ≡ length (lengthBytes (length v))) × (s ≡ lengthBytes (length v) ++ (v ++ drop (w + length v) s))
   unfolding element
-  element-is s b v n e = go (readLength s) refl
+  element-is s b w v e = go (readLength s) refl
     where
-      go : (o : Option Spelt) → readLength s ≡ o → Good v × (n ≡ length (lengthBytes (length v)) + length v) × (s ≡ lengthBytes (length v) ++ (v ++ drop n s))
+      go : (o : Option Spelt) → readLength s ≡ o → Good v × (w ≡ length (lengthBytes (length v))) × (s ≡ lengthBytes (length v) ++ (v ++ drop (w + length v) s))
       go none f = absurd (no-whole (rw f at e))
       go (some m) f =
           let body = drop (m .width) s in
-          let e′ : within l rule today m (drop (m .width) s) ≡ whole v n = rw f at e in
+          let e′ : within l rule today m (drop (m .width) s) ≡ whole w v = rw f at e in
           let x = exact s b (m .number) (m .width) .0 f in
           elim (decLt (length body) (m .number)) [
             | yes h ↦ absurd (no-whole (rw (lt-ltb _ _ h) at e′))
             | no h ↦
                 let k : m .number ≤ length body = omega arith in
-                let j = sized-is (m .width) (take (m .number) body) v n (rw (le-ltb _ _ k) at e′) in
+                let j = sized-is (m .width) w (take (m .number) body) v (rw (le-ltb _ _ k) at e′) in
                 let q : m .number ≡ length v = sym (length-take-le (m .number) body k) ∙ ap length (j .0) in
                 let t : take (m .width) s ≡ lengthBytes (length v) = x .1 .1 ∙ ap lengthBytes q in
-                let w : m .width ≡ length (lengthBytes (length v)) = sym (length-take-le (m .width) s (x .0)) ∙ ap length t in
-                let z : n ≡ m .width + m .number = sym (j .1) ∙ ap (λ (k : ℕ). m .width + k) (length-take-le (m .number) body k) in
-                let r : drop (m .number) body ≡ drop n s = drop-drop (m .number) (m .width) s ∙ ap (λ (k : ℕ). drop k s) (sym z) in (
+                let r : drop (m .number) body ≡ drop (w + length v) s = drop-drop (m .number) (m .width) s ∙ rw (j .1, q) in (
                   rw (← j .0) (j .2),
-                  rw (z, w, q),
+                  sym (j .1) ∙ sym (length-take-le (m .width) s (x .0)) ∙ ap length t,
                   sym (take-append-drop (m .width) s) ∙ rw t (ap (λ (y : List ℕ). lengthBytes (length v) ++ y) (sym (take-append-drop (m .number) body) ∙ rw (j .0, r))),
                 )
           ]
 
   -- and what is written is read
-  pub element-of : (v r : List ℕ) → length v < 65536 → Good v → element l rule today (lengthBytes (length v) ++ (v ++ r)) ≡ whole v (length (lengthBytes (length v)) + length v)
+  pub element-of : (v r : List ℕ) → length v < 65536 → Good v → element l rule today (lengthBytes (length v) ++ (v ++ r)) ≡ whole (length (lengthBytes (length v))) v
   unfolding element
   element-of v r h g =
       let k : length v ≤ length (v ++ r) = rw length-append (omega arith) in

@@ -3,7 +3,7 @@
 use Prim.Native.Nat.{ℕ, _+_, _<_, _≤_}
 use mathlib.Core.Logic.{inl, inr, _↔_}
 use mathlib.Core.Path.{_≡_, refl, sym, ap, _∙_}
-use mathlib.Core.Bool.{true, true≢false}
+use mathlib.Core.Bool.{true, cond, true≢false}
 use mathlib.Core.Option.{Option, none, some}
 use mathlib.Core.List.{List, [], _∷_, _++_}
 use native.Mathlib.Omega.{arith}
@@ -19,19 +19,19 @@ use Rattle.lengths.proofs.Spellings.{exact as spelling-exact, reads-back}
 use Rattle.dates.specs.Date.{IsDate, isDate}
 use Rattle.dates.proofs.Dates.{date-exact}
 use Rattle.kinds.specs.Tables.{Table, table, IsKind, isKind}
-use Rattle.verdicts.specs.Verdicts.{verdictOf}
+use Rattle.verdicts.specs.Verdicts.{found, verdictOf}
 use Rattle.verdicts.proofs.Apart.{never-zero}
 use Rattle.verdicts.specs.declared.Outcome.{Outcome}
 use Rattle.verdicts.specs.declared.Outcome.the-variants.{Fine, Broken}
 use Rattle.container.specs.Container.{Values, encode, outerTag, container, Allowed, largest, Conforms}
-use Rattle.container.specs.Reading.{Parsed, values, fault, inner, outer, parsed, outcomeOf, outcome, verdict}
+use Rattle.container.specs.Reading.{Parsed, values, fault, Part, bytesOf, alone, inner, outer, located, parsed, outcomeOf, outcome, verdict}
 use Rattle.container.proofs.Tags.{distinct, tags}
 use Rattle.container.proofs.Exact.{no-values, sound, complete}
 use Rattle.container.specs.InOrder.{Named, no-kind, no-date, too-large, outer-tag, outer-length, outer-end, in-element}
 use Rattle.container.proofs.Faults.{read-length, none-read}
-use Rattle.container.proofs.InOrder.{place-of, fault-is, first}
-use Rattle.verdicts.specs.declared.Fault.{Fault}
-use Rattle.verdicts.specs.declared.Fault.the-variants.{UnknownKind, NoDate, LargeContainer, OuterTag, Overrun}
+use Rattle.container.proofs.InOrder.{finding-is, first}
+use Rattle.verdicts.specs.declared.Finding.{Finding}
+use Rattle.verdicts.specs.declared.Fault.the-variants.{LargeContainer}
 
 pub kind-exact : (kind : ℕ) → (isKind kind ≡ true) ↔ IsKind kind
 kind-exact kind = (
@@ -41,40 +41,41 @@ kind-exact kind = (
 
 -- ---- what is read was written
 
-inner-is : (today : ℕ) (rows : Table) (o : Option Spelt) (s : List ℕ) → readLength s ≡ o → Bytes s → (vs : Values) → inner today rows o s ≡ values vs
-    → Allowed today rows vs × (s ≡ lengthBytes (length (encode rows vs)) ++ encode rows vs)
-inner-is today rows none s f b vs e = absurd (no-values e)
-inner-is today rows (some n) s f b vs e =
+inner-is : (today : ℕ) (rows : Table) (o : Option Spelt) (s : List ℕ) → readLength s ≡ o → Bytes s → (ps : List (Option Part)) → inner today rows o s ≡ values ps
+    → let vs : Values = bytesOf ps in Allowed today rows vs × (s ≡ lengthBytes (length (encode rows vs)) ++ encode rows vs)
+inner-is today rows none s f b ps e = absurd (no-values e)
+inner-is today rows (some n) s f b ps e =
+    let vs : Values = bytesOf ps in
     elim (which (eqb (length s) (n .width + n .number))) [
       | inl q ↦
-          let p = sound today rows rows (1 + n .width) (drop (n .width) s) (below-drop 256 (n .width) s b) vs (rw q at e) in
+          let p = sound today rows rows (1 + n .width) (drop (n .width) s) (below-drop 256 (n .width) s b) ps (rw q at e) in
           let x = spelling-exact s b (n .number) (n .width) .0 f in
           let m : n .number ≡ length (encode rows vs) = omega (arith, eqb-true (length s) (n .width + n .number) q, length-drop (n .width) s, ap length (p .1)) in
           (p .0, rw (← m) (sym (take-append-drop (n .width) s) ∙ rw (x .1 .1, p .1)))
       | inr q ↦ absurd (no-values (rw q at e))
     ]
 
-outer-is : (kind today : ℕ) (c : List ℕ) → Bytes c → (vs : Values) → outer kind today c ≡ values vs → Allowed today (table kind) vs × (c ≡ container kind vs)
-outer-is kind today [] b vs e = absurd (no-values e)
-outer-is kind today (t ∷ s) b vs e =
+outer-is : (kind today : ℕ) (c : List ℕ) → Bytes c → (ps : List (Option Part)) → outer kind today c ≡ values ps → Allowed today (table kind) (bytesOf ps) × (c ≡ container kind (bytesOf ps))
+outer-is kind today [] b ps e = absurd (no-values e)
+outer-is kind today (t ∷ s) b ps e =
     elim (which (eqb t (outerTag kind))) [
       | inl q ↦
-          let p = inner-is today (table kind) (readLength s) s refl (b .1) vs (rw q at e) in
+          let p = inner-is today (table kind) (readLength s) s refl (b .1) ps (rw q at e) in
           (p .0, ap (λ (x : ℕ). x ∷ s) (eqb-true _ _ q) ∙ ap (λ (x : List ℕ). outerTag kind ∷ x) (p .1))
       | inr q ↦ absurd (no-values (rw q at e))
     ]
 
-parsed-conforms : (kind today : ℕ) (c : List ℕ) → Bytes c → (vs : Values) → parsed kind today c ≡ values vs → Conforms kind today vs c
-unfolding parsed
-parsed-conforms kind today c b vs e =
+-- values that are read are read at the end of all tests
+pub in-outer-values : (kind today : ℕ) (c : List ℕ) (ps : List (Option Part)) → located kind today c ≡ values ps
+    → IsKind kind × IsDate today × (length c ≤ largest) × (outer kind today c ≡ values ps)
+unfolding located
+in-outer-values kind today c ps e =
     elim (which (isKind kind)) [
       | inl k ↦
           elim (which (isDate today)) [
             | inl d ↦
                 elim (which (leb (length c) largest)) [
-                  | inl l ↦
-                      let p = outer-is kind today c b vs (rw (k, d, l) at e) in
-                      record { kind-is = kind-exact kind .0 k; date-is = date-exact today .0 d; size-is = leb-true _ _ l; allowed = p .0; written = p .1 }
+                  | inl l ↦ (kind-exact kind .0 k, date-exact today .0 d, leb-true _ _ l, rw (k, d, l) at e)
                   | inr l ↦ absurd (no-values (rw (k, d, l) at e))
                 ]
             | inr d ↦ absurd (no-values (rw (k, d) at e))
@@ -82,10 +83,24 @@ parsed-conforms kind today c b vs e =
       | inr k ↦ absurd (no-values (rw k at e))
     ]
 
+pub located-conforms : (kind today : ℕ) (c : List ℕ) → Bytes c → (ps : List (Option Part)) → located kind today c ≡ values ps → Conforms kind today (bytesOf ps) c
+located-conforms kind today c b ps e =
+    let (k, d, l, o) = in-outer-values kind today c ps e in
+    let p = outer-is kind today c b ps o in
+    record { kind-is = k; date-is = d; size-is = l; allowed = p .0; written = p .1 }
+
+parsed-conforms : (kind today : ℕ) (c : List ℕ) → Bytes c → (vs : Values) → parsed kind today c ≡ values vs → Conforms kind today vs c
+unfolding parsed
+parsed-conforms kind today c b vs e = go (located kind today c) refl e
+  where
+    go : (p : Parsed Part) → located kind today c ≡ p → alone p ≡ values vs → Conforms kind today vs c
+    go (values ps) q z = let x : bytesOf ps ≡ vs = cc in rw (← x) (located-conforms kind today c b ps q)
+    go (fault f) q z = absurd (no-values z)
+
 -- ---- and what is written is read
 
 pub conforms-parsed : (kind today : ℕ) (c : List ℕ) → Bytes c → (vs : Values) → Conforms kind today vs c → parsed kind today c ≡ values vs
-unfolding parsed
+unfolding parsed located
 conforms-parsed kind today c b vs h =
     let body = encode (table kind) vs in
     let head = lengthBytes (length body) in
@@ -113,13 +128,13 @@ pub fine-exact : (kind today : ℕ) (c : List ℕ) → Bytes c → (outcome kind
 unfolding outcome
 fine-exact kind today c b = (go (parsed kind today c) refl, λ h. ap outcomeOf (conforms-parsed kind today c b (h .0) (h .1)))
   where
-    go : (p : Parsed) → parsed kind today c ≡ p → outcomeOf p ≡ Fine → (vs : Values) × Conforms kind today vs c
+    go : (p : Parsed (List ℕ)) → parsed kind today c ≡ p → outcomeOf p ≡ Fine → (vs : Values) × Conforms kind today vs c
     go (values vs) e z = (vs, parsed-conforms kind today c b vs e)
-    go (fault f p) e z = let y : _≡_ {A = ℕ} 0 1 = cc in absurd (omega arith)
+    go (fault f) e z = let y : _≡_ {A = ℕ} 0 1 = cc in absurd (omega arith)
 
 zero-fine : (o : Outcome) → (verdictOf o .number ≡ 0) ↔ (o ≡ Fine)
 zero-fine Fine = (λ e. refl, λ e. refl)
-zero-fine (Broken f p) = (λ e. absurd (never-zero f e), λ e. ap (λ (o : Outcome). verdictOf o .number) e)
+zero-fine (Broken f) = (λ e. absurd (never-zero (f .fault) e), λ e. ap (λ (o : Outcome). verdictOf o .number) e)
 
 -- in 01's number: the verdict is 0 exactly when there are values that are allowed and written as these bytes
 pub exactly-when : (kind today : ℕ) (c : List ℕ) → Bytes c → (verdict kind today c .number ≡ 0) ↔ ((vs : Values) × Conforms kind today vs c)
@@ -128,45 +143,52 @@ exactly-when kind today c b =
 
 -- ---- the first broken rule is named
 
-module _ (kind today : ℕ) (f : Fault) (p : ℕ) (ki : IsKind kind) (di : IsDate today) where
-  in-inner : (o : Option Spelt) (t : ℕ) (s : List ℕ) → length (t ∷ s) ≤ largest → t ≡ outerTag kind → readLength s ≡ o → Bytes s → inner today (table kind) o s ≡ fault f p
-      → Named kind today (t ∷ s) f p
-  in-inner none t s l h r b e = outer-length ki di l (ap (λ (x : ℕ). x ∷ []) h) (none-read s b .0 r) (fault-is e) (place-of e)
+module _ (kind today : ℕ) (f : Finding) (ki : IsKind kind) (di : IsDate today) where
+  in-inner : (o : Option Spelt) (t : ℕ) (s : List ℕ) → length (t ∷ s) ≤ largest → t ≡ outerTag kind → readLength s ≡ o → Bytes s → inner today (table kind) o s ≡ fault f
+      → Named kind today (t ∷ s) f
+  in-inner none t s l h r b e = outer-length ki di l (ap (λ (x : ℕ). x ∷ []) h) (none-read s b .0 r) (finding-is e)
   in-inner (some n) t s l h r b e =
       let c = read-length s b n r in
       let m = length-drop (n .width) s in
       elim (which (eqb (length s) (n .width + n .number))) [
         | inl q ↦
             in-element ki di l (ap (λ (x : ℕ). x ∷ []) h) (n .number) (drop (n .width) s) (c .0) (omega (arith, m, eqb-true (length s) (n .width + n .number) q))
-            (rw (← c .1) (first today (table kind) (table kind) (1 + n .width) (drop (n .width) s) (below-drop 256 (n .width) s b) f p (rw q at e)))
+            (rw (← c .1) (first today (table kind) (table kind) (1 + n .width) (drop (n .width) s) (below-drop 256 (n .width) s b) f (rw q at e)))
         | inr q ↦
-            let z : fault Overrun 0 ≡ fault f p = rw q at e in
             outer-end ki di l (ap (λ (x : ℕ). x ∷ []) h) (n .number) (drop (n .width) s) (c .0)
-            (λ g. eqb-false (length s) (n .width + n .number) q (omega (arith, m, g))) (fault-is z) (place-of z)
+            (λ g. eqb-false (length s) (n .width + n .number) q (omega (arith, m, g))) (finding-is (rw q at e))
       ]
 
-  in-outer : (c : List ℕ) → length c ≤ largest → Bytes c → outer kind today c ≡ fault f p → Named kind today c f p
-  in-outer [] l b e = outer-tag ki di l (λ h. let z : _≡_ {A = ℕ} 0 1 = cc in omega arith) (fault-is e) (place-of e)
+  in-outer : (c : List ℕ) → length c ≤ largest → Bytes c → outer kind today c ≡ fault f → Named kind today c f
+  in-outer [] l b e = outer-tag ki di l (λ h. let z : _≡_ {A = ℕ} 0 1 = cc in omega arith) (finding-is e)
   in-outer (t ∷ s) l b e =
       elim (which (eqb t (outerTag kind))) [
         | inl q ↦ in-inner (readLength s) t s l (eqb-true _ _ q) refl (b .1) (rw q at e)
-        | inr q ↦
-            let z : fault OuterTag 0 ≡ fault f p = rw q at e in
-            outer-tag ki di l (λ h. let m : t ≡ outerTag kind = cc in true≢false (sym (eq-eqb t (outerTag kind) m) ∙ q)) (fault-is z) (place-of z)
+        | inr q ↦ outer-tag ki di l (λ h. let m : t ≡ outerTag kind = cc in true≢false (sym (eq-eqb t (outerTag kind) m) ∙ q)) (finding-is (rw q at e))
       ]
 
-pub named : (kind today : ℕ) (c : List ℕ) → Bytes c → (f : Fault) (p : ℕ) → parsed kind today c ≡ fault f p → Named kind today c f p
-unfolding parsed
-named kind today c b f p e =
+  in-located : (c : List ℕ) → Bytes c → located kind today c ≡ fault f → Named kind today c f
+  unfolding located
+  in-located c b e =
+      let e′ : cond (leb (length c) largest) (outer kind today c) (fault (found LargeContainer 0)) ≡ fault f = rw (kind-exact kind .1 ki, date-exact today .1 di) at e in
+      elim (which (leb (length c) largest)) [
+        | inl l ↦ in-outer c (leb-true _ _ l) b (rw l at e′)
+        | inr l ↦ too-large ki di (leb-false _ _ l) (finding-is (rw l at e′))
+      ]
+
+pub located-fault : (p : Parsed Part) {f : Finding} → alone p ≡ fault f → p ≡ fault f
+located-fault (values ps) e = absurd (no-values (sym e))
+located-fault (fault g) e = cc
+
+pub named : (kind today : ℕ) (c : List ℕ) → Bytes c → (f : Finding) → parsed kind today c ≡ fault f → Named kind today c f
+unfolding parsed located
+named kind today c b f e =
+    let q = located-fault (located kind today c) e in
     elim (which (isKind kind)) [
       | inl k ↦
           elim (which (isDate today)) [
-            | inl d ↦
-                elim (which (leb (length c) largest)) [
-                  | inl l ↦ in-outer kind today f p (kind-exact kind .0 k) (date-exact today .0 d) c (leb-true _ _ l) b (rw (k, d, l) at e)
-                  | inr l ↦ let q : fault LargeContainer 0 ≡ fault f p = rw (k, d, l) at e in too-large (kind-exact kind .0 k) (date-exact today .0 d) (leb-false _ _ l) (fault-is q) (place-of q)
-                ]
-            | inr d ↦ let q : fault NoDate 0 ≡ fault f p = rw (k, d) at e in no-date (kind-exact kind .0 k) (λ h. true≢false (sym (date-exact today .1 h) ∙ d)) (fault-is q) (place-of q)
+            | inl d ↦ in-located kind today f (kind-exact kind .0 k) (date-exact today .0 d) c b q
+            | inr d ↦ no-date (kind-exact kind .0 k) (λ h. true≢false (sym (date-exact today .1 h) ∙ d)) (finding-is (rw (k, d) at q))
           ]
-      | inr k ↦ let q : fault UnknownKind 0 ≡ fault f p = rw k at e in no-kind (λ h. true≢false (sym (kind-exact kind .1 h) ∙ k)) (fault-is q) (place-of q)
+      | inr k ↦ no-kind (λ h. true≢false (sym (kind-exact kind .1 h) ∙ k)) (finding-is (rw k at q))
     ]

@@ -9,50 +9,54 @@ use lib.ListN.{length, getD, drop}
 use lib.Seq.{drop-drop}
 use borrow.Author.Tests.{le-leb, lt-leb, eq-eqb, ne-eqb}
 use Rattle.laws.specs.Bytes.{Bytes}
+use Rattle.laws.specs.Room.{zeros}
 use Rattle.lengths.specs.Length.{readLength, lengthAt}
 use Rattle.lengths.specs.declared.Length.the-variants.{Is, Bad}
 use Rattle.lengths.proofs.Reading.{some-read, none-read}
 use Rattle.lengths.proofs.Spellings.{inside as spelling-inside}
 use Rattle.dates.specs.Date.{isDate}
 use Rattle.kinds.specs.Tables.{isKind}
+use Rattle.verdicts.specs.Verdicts.{found}
 use Rattle.verdicts.specs.declared.Fault.the-variants.{UnknownKind, NoDate, LargeContainer, OuterTag, LengthForm, Overrun}
-use Rattle.verdicts.specs.declared.Outcome.the-variants.{Broken}
 use Rattle.container.specs.Container.{outerTag}
-use Rattle.container.specs.Reading.{outer, parsed, outcomeOf, outcome}
-use Rattle.container.specs.Step.{walkedFrom}
+use Rattle.container.specs.Reading.{outer, located}
+use Rattle.container.specs.Map.{lost, noted, mapOf, mapFrom}
 
 -- ---- 1, 2, 4
 
 module _ (kind today : ℕ) (c : List ℕ) where
-  pub bad-kind : isKind kind ≡ false → Broken UnknownKind 0 ≡ outcome kind today c
-  unfolding outcome parsed
+  pub bad-kind : isKind kind ≡ false → lost (found UnknownKind 0) ≡ mapOf (located kind today c)
+  unfolding located noted
   bad-kind k = rw k
 
   module _ (k : isKind kind ≡ true) where
-    pub bad-date : isDate today ≡ false → Broken NoDate 0 ≡ outcome kind today c
-    unfolding outcome parsed
+    pub bad-date : isDate today ≡ false → lost (found NoDate 0) ≡ mapOf (located kind today c)
+    unfolding located noted
     bad-date d = rw (k, d)
 
     module _ (d : isDate today ≡ true) where
-      pub too-large : 32768 < length c → Broken LargeContainer 0 ≡ outcome kind today c
-      unfolding outcome parsed
+      pub too-large : 32768 < length c → lost (found LargeContainer 0) ≡ mapOf (located kind today c)
+      unfolding located noted
       too-large l = rw (k, d, lt-leb _ _ l)
 
-      pub goes-in : length c ≤ 32768 → outcomeOf (outer kind today c) ≡ outcome kind today c
-      unfolding outcome parsed
+      pub goes-in : length c ≤ 32768 → mapOf (outer kind today c) ≡ mapOf (located kind today c)
+      unfolding located noted
       goes-in l = rw (k, d, le-leb _ _ l)
 
 -- ---- 10, 11, 12
 
-pub no-bytes : (kind today : ℕ) (c : List ℕ) → length c ≡ 0 → Broken OuterTag 0 ≡ outcomeOf (outer kind today c)
+pub no-bytes : (kind today : ℕ) (c : List ℕ) → length c ≡ 0 → lost (found OuterTag 0) ≡ mapOf (outer kind today c)
+unfolding noted
 no-bytes kind today [] h = refl
 no-bytes kind today (t ∷ s) h = absurd (omega arith)
 
-pub wrong-tag : (kind today : ℕ) (c : List ℕ) → (getD c 0 0 ≡ outerTag kind → ⊥) → Broken OuterTag 0 ≡ outcomeOf (outer kind today c)
+pub wrong-tag : (kind today : ℕ) (c : List ℕ) → (getD c 0 0 ≡ outerTag kind → ⊥) → lost (found OuterTag 0) ≡ mapOf (outer kind today c)
+unfolding noted
 wrong-tag kind today [] h = refl
 wrong-tag kind today (t ∷ s) h = rw (ne-eqb t (outerTag kind) h)
 
-pub no-length : (kind today : ℕ) (c : List ℕ) → (length c ≡ 0 → ⊥) → getD c 0 0 ≡ outerTag kind → Bad ≡ lengthAt 1 (drop 1 c) → Broken LengthForm 0 ≡ outcomeOf (outer kind today c)
+pub no-length : (kind today : ℕ) (c : List ℕ) → (length c ≡ 0 → ⊥) → getD c 0 0 ≡ outerTag kind → Bad ≡ lengthAt 1 (drop 1 c) → lost (found LengthForm 0) ≡ mapOf (outer kind today c)
+unfolding noted
 no-length kind today [] z h f = absurd (z refl)
 no-length kind today (t ∷ s) z h f = rw (eq-eqb t (outerTag kind) h, none-read 1 s f)
 
@@ -65,7 +69,8 @@ within-outer (t ∷ s) {n} {next} b z f =
     omega (arith, m .2, r .1)
 
 pub off-end : (kind today : ℕ) (c : List ℕ) {n next : ℕ} → Bytes c → (length c ≡ 0 → ⊥) → getD c 0 0 ≡ outerTag kind → Is n next ≡ lengthAt 1 (drop 1 c) → (length c - next ≡ n → ⊥)
-    → Broken Overrun 0 ≡ outcomeOf (outer kind today c)
+    → lost (found Overrun 0) ≡ mapOf (outer kind today c)
+unfolding noted
 off-end kind today [] b z h f k = absurd (z refl)
 off-end kind today (t ∷ s) {n} {next} b z h f k =
     let m = some-read 1 s f in
@@ -73,12 +78,12 @@ off-end kind today (t ∷ s) {n} {next} b z h f k =
     rw (eq-eqb t (outerTag kind) h, m .1, ne-eqb _ _ k′)
 
 fitted : (kind today t : ℕ) (s : List ℕ) (n w next : ℕ) → t ≡ outerTag kind → readLength s ≡ some (record { number = n; width = w }) → next ≡ 1 + w → length s ≡ w + n
-    → walkedFrom kind today (t ∷ s) next 0 ≡ outcomeOf (outer kind today (t ∷ s))
-unfolding walkedFrom
+    → mapFrom kind today (t ∷ s) next 0 (zeros 16) (zeros 16) ≡ mapOf (outer kind today (t ∷ s))
+unfolding mapFrom
 fitted kind today t s n w next h r e k = rw (eq-eqb t (outerTag kind) h, r, eq-eqb _ _ k, e, ← drop-drop w 1 (t ∷ s))
 
 pub fits-outer : (kind today : ℕ) (c : List ℕ) {n next : ℕ} → Bytes c → (length c ≡ 0 → ⊥) → getD c 0 0 ≡ outerTag kind → Is n next ≡ lengthAt 1 (drop 1 c) → length c - next ≡ n
-    → walkedFrom kind today c next 0 ≡ outcomeOf (outer kind today c)
+    → mapFrom kind today c next 0 (zeros 16) (zeros 16) ≡ mapOf (outer kind today c)
 fits-outer kind today [] b z h f k = absurd (z refl)
 fits-outer kind today (t ∷ s) {n} {next} b z h f k =
     let m = some-read 1 s f in

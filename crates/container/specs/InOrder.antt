@@ -12,6 +12,8 @@ use Rattle.lengths.specs.Length.{lengthBytes}
 use Rattle.kinds.specs.Tables.{Lengths, Permitted, Entry, Table, table, IsKind}
 use Rattle.kinds.specs.declared.ValueRule.{ValueRule}
 use Rattle.rules.specs.Rules.{Violates}
+use Rattle.verdicts.specs.Verdicts.{found}
+use Rattle.verdicts.specs.declared.Finding.{Finding}
 use Rattle.verdicts.specs.declared.Fault.{Fault}
 use Rattle.verdicts.specs.declared.Fault.the-variants.{UnknownKind, NoDate, LargeContainer, OuterTag, LengthForm, Overrun, UnknownTag, TagOrder, MissingRow, ElementLength}
 use Rattle.container.specs.Container.{Values, long, has, tagHere, encode, outerTag, Allowed, largest}
@@ -59,28 +61,28 @@ LastThere (none ∷ []) = ⊥
 LastThere (none ∷ o ∷ vs) = LastThere (o ∷ vs)
 LastThere (some v ∷ vs) = LastThere vs
 
--- the rule f is the first that is broken in the bytes s, which start at the offset `at`: the rows up to that of the last element before the place, with
--- values that are allowed, are written as the bytes before the place, and there, with the other rows to come, f is broken
-pub record First (today : ℕ) (all rest : Table) (at : ℕ) (s : List ℕ) (f : Fault) (place : ℕ) : Type 0 where
+-- the finding f is the first in the bytes s, which start at the offset `at`: the rows up to that of the last element before the place, with values that
+-- are allowed, are written as the bytes before the place, and there, with the other rows to come, the rule is broken
+pub record First (today : ℕ) (all rest : Table) (at : ℕ) (s : List ℕ) (f : Finding) : Type 0 where
   pub rows : Table
   pub later : Table
   pub vs : Values
   pub split : rest ≡ rows ++ later
   pub allowed : Allowed today rows vs
   pub last : LastThere vs
-  pub place-is : place ≡ at + length (encode rows vs)
+  pub place-is : f .place ≡ at + length (encode rows vs)
   pub written : take (length (encode rows vs)) s ≡ encode rows vs
-  pub wrong : Wrong today all later (drop (length (encode rows vs)) s) f
+  pub wrong : Wrong today all later (drop (length (encode rows vs)) s) (f .fault)
 
 -- "Check: 1, 2, 4, then outer 10, 11, 12 (place 0), then each element": the first broken rule of the bytes c, and its place
-pub data Named (kind today : ℕ) (c : List ℕ) (f : Fault) (place : ℕ) : Type 0 where
-  no-kind : (IsKind kind → ⊥) → f ≡ UnknownKind → place ≡ 0 → Named kind today c f place
-  no-date : IsKind kind → (IsDate today → ⊥) → f ≡ NoDate → place ≡ 0 → Named kind today c f place
-  too-large : IsKind kind → IsDate today → largest < length c → f ≡ LargeContainer → place ≡ 0 → Named kind today c f place
-  outer-tag : IsKind kind → IsDate today → length c ≤ largest → (take 1 c ≡ outerTag kind ∷ [] → ⊥) → f ≡ OuterTag → place ≡ 0 → Named kind today c f place
+pub data Named (kind today : ℕ) (c : List ℕ) (f : Finding) : Type 0 where
+  no-kind : (IsKind kind → ⊥) → f ≡ found UnknownKind 0 → Named kind today c f
+  no-date : IsKind kind → (IsDate today → ⊥) → f ≡ found NoDate 0 → Named kind today c f
+  too-large : IsKind kind → IsDate today → largest < length c → f ≡ found LargeContainer 0 → Named kind today c f
+  outer-tag : IsKind kind → IsDate today → length c ≤ largest → (take 1 c ≡ outerTag kind ∷ [] → ⊥) → f ≡ found OuterTag 0 → Named kind today c f
   outer-length : IsKind kind → IsDate today → length c ≤ largest → take 1 c ≡ outerTag kind ∷ [] → ((n : ℕ) (r : List ℕ) → IsLength (drop 1 c) n r → ⊥)
-      → f ≡ LengthForm → place ≡ 0 → Named kind today c f place
+      → f ≡ found LengthForm 0 → Named kind today c f
   outer-end : IsKind kind → IsDate today → length c ≤ largest → take 1 c ≡ outerTag kind ∷ [] → (n : ℕ) (r : List ℕ) → IsLength (drop 1 c) n r
-      → (length r ≡ n → ⊥) → f ≡ Overrun → place ≡ 0 → Named kind today c f place
+      → (length r ≡ n → ⊥) → f ≡ found Overrun 0 → Named kind today c f
   in-element : IsKind kind → IsDate today → length c ≤ largest → take 1 c ≡ outerTag kind ∷ [] → (n : ℕ) (r : List ℕ) → IsLength (drop 1 c) n r
-      → length r ≡ n → First today (table kind) (table kind) (1 + length (lengthBytes n)) r f place → Named kind today c f place
+      → length r ≡ n → First today (table kind) (table kind) (1 + length (lengthBytes n)) r f → Named kind today c f

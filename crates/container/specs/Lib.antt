@@ -1,5 +1,4 @@
 pub mod Container
 pub mod Reading
-pub mod Step
-pub mod Places
+pub mod Map
 pub mod InOrder

@@ -1,5 +1,6 @@
--- A container read: its values, or the first rule that it breaks and its place. `proofs/` shows that values are read exactly where the container
--- conforms (`Promise`), and a fault exactly where it is the first broken rule (`Named`).
+-- A container read: for each row its value and where it stands, or the first rule that it breaks and its place. `proofs/` shows that values are read
+-- exactly where the container conforms (`Promise`), that they stand where it says (`Map`), and that a fault is read exactly where it is the first broken
+-- rule (`Named`).
 use Prim.Native.Nat.{ℕ, _+_}
 use mathlib.Core.Bool.{cond}
 use mathlib.Core.Option.{Option, none, some}
@@ -11,37 +12,55 @@ use Rattle.kinds.specs.Tables.{Lengths, Table, table, permitted, isKind}
 use Rattle.kinds.specs.declared.ValueRule.{ValueRule}
 use Rattle.dates.specs.Date.{isDate}
 use Rattle.rules.specs.Rules.{ruleOf}
-use Rattle.verdicts.specs.Verdicts.{verdictOf}
+use Rattle.verdicts.specs.Verdicts.{found, verdictOf}
 use Rattle.verdicts.specs.declared.Fault.{Fault}
 use Rattle.verdicts.specs.declared.Fault.the-variants.{UnknownKind, NoDate, LargeContainer, OuterTag, LengthForm, Overrun, UnknownTag, TagOrder, MissingRow, ElementLength}
-use Rattle.verdicts.specs.declared.Rule.{Rule}
-use Rattle.verdicts.specs.declared.Rule.the-variants.{Kept, Breaks}
+use Rattle.verdicts.specs.declared.Finding.{Finding}
+use Rattle.verdicts.specs.declared.Ruling.{Ruling}
+use Rattle.verdicts.specs.declared.Ruling.the-variants.{Kept, Breaks}
 use Rattle.verdicts.specs.declared.Outcome.{Outcome}
 use Rattle.verdicts.specs.declared.Outcome.the-variants.{Fine, Broken}
 use Rattle.verdicts.specs.declared.Verdict.{Verdict}
 use Rattle.container.specs.Container.{Values, long, has, tagHere, outerTag, largest}
 
-pub data Parsed : Type 0 where
-  values : Values → Parsed
-  fault : Fault → ℕ → Parsed
+-- what is read: something for each row that is there, or the first finding
+pub data Parsed (A : Type 0) : Type 0 where
+  values : List (Option A) → Parsed A
+  fault : Finding → Parsed A
 
-abbrev pub prepend : Option (List ℕ) → Parsed → Parsed
+-- a value, and the offset at which it stands
+pub record Part : Type 0 where
+  pub offset : ℕ
+  pub bytes : List ℕ
+
+-- the values of some parts
+abbrev pub bytesOf : List (Option Part) → Values
+bytesOf [] = []
+bytesOf (none ∷ ps) = none ∷ bytesOf ps
+bytesOf (some p ∷ ps) = some (p .bytes) ∷ bytesOf ps
+
+-- what is read, without the places of the values
+abbrev pub alone : Parsed Part → Parsed (List ℕ)
+alone (values ps) = values (bytesOf ps)
+alone (fault f) = fault f
+
+abbrev pub prepend : {A : Type 0} → Option A → Parsed A → Parsed A
 prepend o (values vs) = values (o ∷ vs)
-prepend o (fault f p) = fault f p
+prepend o (fault f) = fault f
 
--- ---- one element, from the bytes after its tag: its value and how many bytes its length and value take, or the first rule broken: 11, 12, 16, the value's
+-- ---- one element, from the bytes after its tag: how many bytes its length takes, and its value; or the first rule broken: 11, 12, 16, the value's
 
 pub data Element : Type 0 where
-  whole : List ℕ → ℕ → Element
+  whole : ℕ → List ℕ → Element
   broken : Fault → Element
 
-abbrev pub ended : List ℕ → ℕ → Rule → Element
-ended v size Kept = whole v size
-ended v size (Breaks f) = broken f
+abbrev pub ended : ℕ → List ℕ → Ruling → Element
+ended width v Kept = whole width v
+ended width v (Breaks f) = broken f
 
 module _ (l : Lengths) (rule : ValueRule) (today : ℕ) where
   abbrev pub sized : ℕ → List ℕ → Element
-  sized width v = cond (permitted l (length v)) (ended v (width + length v) (ruleOf rule today v)) (broken ElementLength)
+  sized width v = cond (permitted l (length v)) (ended width v (ruleOf rule today v)) (broken ElementLength)
 
   abbrev pub within : Spelt → List ℕ → Element
   within n s = cond (ltb (length s) (n .number)) (broken Overrun) (sized (n .width) (take (n .number) s))
@@ -59,45 +78,51 @@ module _ (l : Lengths) (rule : ValueRule) (today : ℕ) where
 abbrev pub misplaced : Table → Table → ℕ → Fault
 misplaced all rest t = cond (has t rest) MissingRow (cond (has t all) TagOrder UnknownTag)
 
-abbrev pub follow : ℕ → Element → (ℕ → Parsed) → Parsed
-follow at (whole v size) k = prepend (some v) (k size)
-follow at (broken f) k = fault f at
+-- an element that stands at `at` and has its length at `start`, and what follows its length and value
+abbrev pub follow : ℕ → ℕ → Element → (ℕ → Parsed Part) → Parsed Part
+follow at start (whole width v) k = prepend (some (record { offset = start + width; bytes = v })) (k (width + length v))
+follow at start (broken f) k = fault (found f at)
 
 -- the bytes s, which start at the offset `at`, as elements of the rows to come
-abbrev pub parse : ℕ → Table → Table → ℕ → List ℕ → Parsed
+abbrev pub parse : ℕ → Table → Table → ℕ → List ℕ → Parsed Part
 parse today all [] at [] = values []
-parse today all [] at (b ∷ s) = fault (misplaced all [] (tagHere all b s)) at
-parse today all (r ∷ rs) at [] = cond (r .optional) (prepend none (parse today all rs at [])) (fault MissingRow at)
+parse today all [] at (b ∷ s) = fault (found (misplaced all [] (tagHere all b s)) at)
+parse today all (r ∷ rs) at [] = cond (r .optional) (prepend none (parse today all rs at [])) (fault (found MissingRow at))
 parse today all (r ∷ rs) at (b ∷ s) =
     cond (eqb (tagHere all b s) (r .tag))
-    (follow at (element (r .lengths) (r .rule) today (drop (long (r .tag)) (b ∷ s))) (λ n. parse today all rs (at + (long (r .tag) + n)) (drop (long (r .tag) + n) (b ∷ s))))
-    (cond (r .optional) (prepend none (parse today all rs at (b ∷ s))) (fault (misplaced all (r ∷ rs) (tagHere all b s)) at))
+    (follow at (at + long (r .tag)) (element (r .lengths) (r .rule) today (drop (long (r .tag)) (b ∷ s)))
+    (λ n. parse today all rs (at + long (r .tag) + n) (drop (long (r .tag) + n) (b ∷ s))))
+    (cond (r .optional) (prepend none (parse today all rs at (b ∷ s))) (fault (found (misplaced all (r ∷ rs) (tagHere all b s)) at)))
 
 -- ---- the whole: "outer 10, 11, 12 (place 0)"
 
-abbrev pub inner : ℕ → Table → Option Spelt → List ℕ → Parsed
-inner today rows none s = fault LengthForm 0
+abbrev pub inner : ℕ → Table → Option Spelt → List ℕ → Parsed Part
+inner today rows none s = fault (found LengthForm 0)
 inner today rows (some n) s =
-    cond (eqb (length s) (n .width + n .number)) (parse today rows rows (1 + n .width) (drop (n .width) s)) (fault Overrun 0)
+    cond (eqb (length s) (n .width + n .number)) (parse today rows rows (1 + n .width) (drop (n .width) s)) (fault (found Overrun 0))
 
-abbrev pub outer : ℕ → ℕ → List ℕ → Parsed
-outer kind today [] = fault OuterTag 0
-outer kind today (t ∷ s) = cond (eqb t (outerTag kind)) (inner today (table kind) (readLength s) s) (fault OuterTag 0)
+abbrev pub outer : ℕ → ℕ → List ℕ → Parsed Part
+outer kind today [] = fault (found OuterTag 0)
+outer kind today (t ∷ s) = cond (eqb t (outerTag kind)) (inner today (table kind) (readLength s) s) (fault (found OuterTag 0))
 
 -- "Check: 1, 2, 4, then outer 10, 11, 12 (place 0), then each element"
-unfoldable pub parsed : ℕ → ℕ → List ℕ → Parsed
-parsed kind today c =
+unfoldable pub located : ℕ → ℕ → List ℕ → Parsed Part
+located kind today c =
     cond (isKind kind)
     (cond (isDate today)
-    (cond (leb (length c) largest) (outer kind today c) (fault LargeContainer 0))
-    (fault NoDate 0))
-    (fault UnknownKind 0)
+    (cond (leb (length c) largest) (outer kind today c) (fault (found LargeContainer 0)))
+    (fault (found NoDate 0)))
+    (fault (found UnknownKind 0))
+
+-- the values alone
+unfoldable pub parsed : ℕ → ℕ → List ℕ → Parsed (List ℕ)
+parsed kind today c = alone (located kind today c)
 
 -- ---- the verdict
 
-abbrev pub outcomeOf : Parsed → Outcome
+abbrev pub outcomeOf : {A : Type 0} → Parsed A → Outcome
 outcomeOf (values vs) = Fine
-outcomeOf (fault f p) = Broken f p
+outcomeOf (fault f) = Broken f
 
 unfoldable pub outcome : ℕ → ℕ → List ℕ → Outcome
 outcome kind today c = outcomeOf (parsed kind today c)

@@ -1,30 +1,60 @@
-// Judges a container: its outer form, then its elements against the kind's table, in one pass.
+// Judges a container: its outer form, then its elements against the kind's table, in one pass that notes where each row's
+// value lies.
 ghost use mathlib.Core.Path.{_≡_};
-ghost use Prim.Native.Nat.{_<_, _≤_, _+_};
+ghost use Prim.Native.Nat.{_<_, _≤_, _+_, _-_};
 ghost use lib.ListN.{length, drop, getD};
+ghost use Rattle.laws.specs.Room.{zeros};
+ghost use Rattle.laws.specs.Layout.{part};
 ghost use Rattle.kinds.specs.Tables.{table, permits};
+ghost use Rattle.verdicts.specs.Verdicts.{found};
 ghost use Rattle.container.specs.Container.{long, tagHere, outerTag};
-ghost use Rattle.container.specs.Reading.{element, outer, outcomeOf, outcome, verdict};
-ghost use Rattle.container.specs.Step.{Steps, walkedFrom, valueAt, lengthsOf};
-ghost use Rattle.container.specs.Places.{foundAt, Inside, firstElement};
+ghost use Rattle.container.specs.Reading.{element, outer, located, verdict};
+ghost use Rattle.container.specs.Map.{lost, mapOf, Inside, mapFrom, Steps, valueAt, lengthsOf};
 use kinds::Row;
 use kinds::ValueRule;
 use lengths::Length;
 use verdicts::Fault;
+use verdicts::Finding;
 use verdicts::Outcome;
-use verdicts::Rule;
+use verdicts::Ruling;
 use verdicts::Verdict;
 
-// What the bytes after an element's tag come to: the fault, or the end of the value.
-enum Value {
-    Bad(Fault),
-    Whole(usize),
+// The outcome, and from where to where the value of each row lies: 0 and 0 for a row that is absent, and throughout where
+// something is wrong.
+pub struct Map {
+    pub outcome: Outcome,
+    pub from: [u16; 16],
+    pub to: [u16; 16],
 }
 
-// What judging one element comes to: the fault, or the end of the element and its row.
+// What the bytes after an element's tag come to: the fault, or where the value starts and ends.
+enum Value {
+    Bad(Fault),
+    Whole(usize, usize),
+}
+
+// What judging one element comes to: the finding, or where its value starts and ends, and its row, counted from 1.
 enum Step {
-    Stop(Fault),
-    Next(usize, u64),
+    Stop(Finding),
+    Next(usize, usize, u64),
+}
+
+// Something is wrong: no row lies anywhere.
+fn lost(f: Finding) -> Map
+    ensures { λ r. ⌜ r ≡ lost f ⌝ }
+{
+    Map {
+        outcome: Outcome::Broken(f),
+        from: [0u16; 16],
+        to: [0u16; 16],
+    }
+}
+
+// Something is wrong before the first element: the place is 0.
+fn outright(f: Fault) -> Map
+    ensures { λ r. ⌜ r ≡ lost (found f 0) ⌝ }
+{
+    lost(verdicts::found(f, 0))
 }
 
 // Whether a row's lengths permit this one.
@@ -57,8 +87,8 @@ fn value_at(
             }
             let end = next + n;
             match rules::judge(rule, today, &c[next..end]) {
-                Rule::Kept => Value::Whole(end),
-                Rule::Breaks(f) => Value::Bad(f),
+                Ruling::Kept => Value::Whole(next, end),
+                Ruling::Breaks(f) => Value::Bad(f),
             }
         }
     }
@@ -101,46 +131,6 @@ fn tag_at(kind: u64, c: &[u8], at: usize) -> u64
     0x5F2F
 }
 
-// Where a row's value lies: its offset and its end; or the row is absent.
-pub enum Found {
-    At(usize, usize),
-    Absent,
-}
-
-// What lies at `at`, where an element with this tag may stand. In a container that conforms it is that element or another's
-// tag, and so the rows can be gone through one after the other.
-pub fn found_at(kind: u64, tag: u64, c: &[u8], at: usize) -> Found
-    ensures { λ r. ⌜ r ≡ foundAt kind tag at (drop at (now (c .entry))) ⌝ }
-    ensures { λ r. ⌜ Inside r at (length (now (c .entry))) ⌝ }
-{
-    if c.len() <= at {
-        return Found::Absent;
-    }
-    if tag_at(kind, c, at) != tag {
-        return Found::Absent;
-    }
-    let start = at + tag_len(tag);
-    match lengths::read_length(c, start) {
-        Length::Bad => Found::Absent,
-        Length::Is(n, next) => {
-            if c.len() - next < n {
-                return Found::Absent;
-            }
-            Found::At(next, next + n)
-        }
-    }
-}
-
-// Where the first element stands: after the outer tag and length.
-pub fn first_element(c: &[u8]) -> usize
-    ensures { λ r. ⌜ r ≡ firstElement (now (c .entry)) ⌝ }
-{
-    match lengths::read_length(c, 1) {
-        Length::Bad => c.len(),
-        Length::Is(_, next) => next,
-    }
-}
-
 // The element whose tag is at `at`, after the row `done`: 13, 14, 15, then its length and value.
 fn element(kind: u64, today: u64, c: &[u8], at: usize, done: u64) -> Step
     requires { ⌜ at < length (now c) ⌝ }
@@ -148,45 +138,55 @@ fn element(kind: u64, today: u64, c: &[u8], at: usize, done: u64) -> Step
 {
     let tag = tag_at(kind, c, at);
     match kinds::row_of(kind, tag) {
-        Row::Missing => Step::Stop(Fault::UnknownTag),
+        Row::Missing => Step::Stop(verdicts::found(Fault::UnknownTag, at)),
         Row::At(index, from, least, most, empty, rule) => {
             if index <= done {
-                return Step::Stop(Fault::TagOrder);
+                return Step::Stop(verdicts::found(Fault::TagOrder, at));
             }
             if done < from {
-                return Step::Stop(Fault::MissingRow);
+                return Step::Stop(verdicts::found(Fault::MissingRow, at));
             }
-            let start = at + tag_len(tag);
-            match value_at(c, start, least, most, empty, rule, today) {
-                Value::Bad(f) => Step::Stop(f),
-                Value::Whole(end) => Step::Next(end, index),
+            let length = at + tag_len(tag);
+            match value_at(c, length, least, most, empty, rule, today) {
+                Value::Bad(f) => Step::Stop(verdicts::found(f, at)),
+                Value::Whole(start, end) => Step::Next(start, end, index),
             }
         }
     }
 }
 
 // The elements from `start` on.
-fn elements(kind: u64, today: u64, c: &[u8], start: usize) -> Outcome
-    requires { ⌜ start ≤ length (now c) ⌝ }
-    ensures { λ r. ⌜ r ≡ walkedFrom kind today (now (c .entry)) start 0 ⌝ }
+fn elements(kind: u64, today: u64, c: &[u8], start: usize) -> Map
+    requires { ⌜ (start ≤ length (now c)) × (length (now c) ≤ 32768) ⌝ }
+    ensures { λ r. ⌜ r ≡ mapFrom kind today (now (c .entry)) start 0 (zeros 16) (zeros 16) ⌝ }
+    ensures { λ r. ⌜ Inside r (length (now (c .entry))) ⌝ }
 {
+    let mut from = [0u16; 16];
+    let mut to = [0u16; 16];
     let mut at = start;
     let mut done: u64 = 0;
     while at < c.len() {
         match element(kind, today, c, at, done) {
             Step::Stop(f) => {
-                return Outcome::Broken(f, at);
+                return lost(f);
             }
-            Step::Next(to, row) => {
-                at = to;
+            Step::Next(start, end, row) => {
+                let i = (row - 1) as usize;
+                from[i] = start as u16;
+                to[i] = end as u16;
+                at = end;
                 done = row;
             }
         }
     }
     if done < kinds::last_row(kind) {
-        return Outcome::Broken(Fault::MissingRow, at);
+        return lost(verdicts::found(Fault::MissingRow, at));
     }
-    Outcome::Fine
+    Map {
+        outcome: Outcome::Fine,
+        from: from,
+        to: to,
+    }
 }
 
 // "7E for kind 3, else 53"
@@ -200,38 +200,41 @@ pub fn outer_tag(kind: u64) -> u8
 }
 
 // The outer form: 10, 11, 12, each with place 0; then the elements.
-fn whole(kind: u64, today: u64, c: &[u8]) -> Outcome
-    ensures { λ r. ⌜ r ≡ outcomeOf (outer kind today (now (c .entry))) ⌝ }
+fn whole(kind: u64, today: u64, c: &[u8]) -> Map
+    requires { ⌜ length (now c) ≤ 32768 ⌝ }
+    ensures { λ r. ⌜ r ≡ mapOf (outer kind today (now (c .entry))) ⌝ }
+    ensures { λ r. ⌜ Inside r (length (now (c .entry))) ⌝ }
 {
     if c.len() == 0 {
-        return Outcome::Broken(Fault::OuterTag, 0);
+        return outright(Fault::OuterTag);
     }
     if c[0] != outer_tag(kind) {
-        return Outcome::Broken(Fault::OuterTag, 0);
+        return outright(Fault::OuterTag);
     }
     match lengths::read_length(c, 1) {
-        Length::Bad => Outcome::Broken(Fault::LengthForm, 0),
+        Length::Bad => outright(Fault::LengthForm),
         Length::Is(n, next) => {
             if c.len() - next != n {
-                return Outcome::Broken(Fault::Overrun, 0);
+                return outright(Fault::Overrun);
             }
             elements(kind, today, c, next)
         }
     }
 }
 
-// The outcome of the check: 1, 2, 4, then the outer form, then each element.
-pub fn judge(kind: u64, today: u64, c: &[u8]) -> Outcome
-    ensures { λ r. ⌜ r ≡ outcome kind today (now (c .entry)) ⌝ }
+// The check, and the map of what it read: 1, 2, 4, then the outer form, then each element.
+pub fn judge(kind: u64, today: u64, c: &[u8]) -> Map
+    ensures { λ r. ⌜ r ≡ mapOf (located kind today (now (c .entry))) ⌝ }
+    ensures { λ r. ⌜ Inside r (length (now (c .entry))) ⌝ }
 {
     if !kinds::is_kind(kind) {
-        return Outcome::Broken(Fault::UnknownKind, 0);
+        return outright(Fault::UnknownKind);
     }
     if !dates::is_date(today) {
-        return Outcome::Broken(Fault::NoDate, 0);
+        return outright(Fault::NoDate);
     }
     if 32768 < c.len() {
-        return Outcome::Broken(Fault::LargeContainer, 0);
+        return outright(Fault::LargeContainer);
     }
     whole(kind, today, c)
 }
@@ -240,5 +243,20 @@ pub fn judge(kind: u64, today: u64, c: &[u8]) -> Outcome
 pub fn check(kind: u64, today: u64, container: &[u8]) -> Verdict
     ensures { λ r. ⌜ r ≡ verdict kind today (now (container .entry)) ⌝ }
 {
-    verdicts::verdict_of(judge(kind, today, container))
+    let map = judge(kind, today, container);
+    let outcome = map.outcome;
+    verdicts::verdict_of(outcome)
+}
+
+// The value of a row, by the map; no bytes where it is absent.
+pub fn part<'a>(c: &'a [u8], map: Map, row: usize) -> &'a [u8]
+    requires { ⌜ (row < 16) × Inside map (length (now c)) ⌝ }
+    ensures { λ r. ⌜ now r ≡ part (now (c .entry)) (getD (map .from) row 0) (getD (map .to) row 0 - getD (map .from) row 0) ⌝ }
+    ensures { λ r. ⌜ (r .ptr .0 ≡ c .entry .ptr .0) × (r .ptr .1 ≡ c .entry .ptr .1 + getD (map .from) row 0) ⌝ }
+{
+    let froms = map.from;
+    let tos = map.to;
+    let from = froms[row] as usize;
+    let to = tos[row] as usize;
+    &c[from..to]
 }

@@ -6,14 +6,12 @@ use lib.ListN.{length}
 use borrow.Rule.Slice.PartMut.{midOf, putMid}
 use Rattle.laws.specs.Room.{zeros, laid, Put}
 use Rattle.laws.proofs.Rooms.{put-filled, filled-none, laid-filled}
-use Rattle.verdicts.specs.Verdicts.{numberOf}
-use Rattle.verdicts.specs.Output.{Output, refusal, text, Leaves}
-use Rattle.verdicts.specs.declared.Fault.{Fault}
+use Rattle.verdicts.specs.Output.{Output, refusal, text, doneOf, Leaves}
+use Rattle.verdicts.specs.declared.Finding.{Finding}
 use Rattle.verdicts.specs.declared.Done.{Done}
 
 -- a refusal: the room was cleared
-pub refuses : {o : Output} {f : Fault} {p : ℕ} (d : List ℕ) {e : List ℕ} {r : Done} → o ≡ refusal f p → e ≡ zeros (length d)
-    → r ≡ record { number = numberOf f; place = p; length = 0 } → Leaves o d e r
+pub refuses : {o : Output} {f : Finding} (d : List ℕ) {e : List ℕ} {r : Done} → o ≡ refusal f → e ≡ zeros (length d) → r ≡ doneOf (refusal f) → Leaves o d e r
 refuses d q z a = record { answer = a ∙ rw q; room = z ∙ filled-none (length d) ∙ rw q }
 
 -- a success: the whole text over a room that was cleared

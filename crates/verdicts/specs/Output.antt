@@ -6,22 +6,22 @@ use mathlib.Core.List.{List, []}
 use lib.ListN.{length}
 use Rattle.laws.specs.Room.{filled}
 use Rattle.verdicts.specs.Verdicts.{numberOf}
-use Rattle.verdicts.specs.declared.Fault.{Fault}
+use Rattle.verdicts.specs.declared.Finding.{Finding}
 use Rattle.verdicts.specs.declared.Done.{Done}
 
 -- a refusal with its place, or the output
 pub data Output : Type 0 where
-  refusal : Fault → ℕ → Output
+  refusal : Finding → Output
   text : List ℕ → Output
 
 -- the bytes that are written
 abbrev pub bytesOf : Output → List ℕ
-bytesOf (refusal f p) = []
+bytesOf (refusal f) = []
 bytesOf (text t) = t
 
 -- the number, the place, and the length of what was written, 0 on a refusal
 abbrev pub doneOf : Output → Done
-doneOf (refusal f p) = record { number = numberOf f; place = p; length = 0 }
+doneOf (refusal f) = record { number = numberOf (f .fault); place = f .place; length = 0 }
 doneOf (text t) = record { number = 0; place = 0; length = length t }
 
 -- the whole answer, of a room that was d and is left as e: nothing of it is open

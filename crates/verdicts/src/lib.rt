@@ -1,6 +1,6 @@
 // The faults that 01 numbers, and the verdict: a number and its place.
 ghost use mathlib.Core.Path.{_≡_};
-ghost use Rattle.verdicts.specs.Verdicts.{numberOf, verdictOf};
+ghost use Rattle.verdicts.specs.Verdicts.{numberOf, found, verdictOf};
 ghost use Rattle.verdicts.specs.Output.{refusal, doneOf};
 
 // What can be wrong, in the order of 01's table of numbers.
@@ -30,15 +30,21 @@ pub enum Fault {
 }
 
 // What a value's rule answers.
-pub enum Rule {
+pub enum Ruling {
     Kept,
     Breaks(Fault),
 }
 
-// What a walk answers: nothing is wrong, or the first fault and its place.
+// What was found wrong: a fault, and its place. 01's numbers that carry no place have the place 0.
+pub struct Finding {
+    pub fault: Fault,
+    pub place: usize,
+}
+
+// What a walk answers: nothing is wrong, or the first finding.
 pub enum Outcome {
     Fine,
-    Broken(Fault, usize),
+    Broken(Finding),
 }
 
 // The same in 01's numbers: 0 and 0, or the fault's number and its place.
@@ -84,6 +90,16 @@ pub fn number_of(f: Fault) -> u64
     }
 }
 
+// A finding with its place.
+pub fn found(fault: Fault, place: usize) -> Finding
+    ensures { λ r. ⌜ r ≡ found fault place ⌝ }
+{
+    Finding {
+        fault: fault,
+        place: place,
+    }
+}
+
 pub fn verdict_of(o: Outcome) -> Verdict
     ensures { λ r. ⌜ r ≡ verdictOf o ⌝ }
 {
@@ -92,20 +108,24 @@ pub fn verdict_of(o: Outcome) -> Verdict
             number: 0,
             place: 0,
         },
-        Outcome::Broken(f, place) => Verdict {
-            number: number_of(f),
-            place: place as u64,
-        },
+        Outcome::Broken(f) => {
+            let fault = f.fault;
+            Verdict {
+                number: number_of(fault),
+                place: f.place as u64,
+            }
+        }
     }
 }
 
 // A refusal, with its place.
-pub fn refused(f: Fault, place: usize) -> Done
-    ensures { λ r. ⌜ r ≡ doneOf (refusal f place) ⌝ }
+pub fn refused(f: Finding) -> Done
+    ensures { λ r. ⌜ r ≡ doneOf (refusal f) ⌝ }
 {
+    let fault = f.fault;
     Done {
-        number: number_of(f),
-        place: place as u64,
+        number: number_of(fault),
+        place: f.place as u64,
         length: 0,
     }
 }

@@ -3,7 +3,9 @@ use mathlib.Core.Path.{_≡_, sym, _∙_}
 use mathlib.Core.Bool.{true}
 use borrow.Author.Needs.{needs}
 use borrow.Author.Tests.{not-true, not-false}
+use Rattle.dates.specs.Date.{isDate}
 use Rattle.kinds.specs.Tables.{isKind}
+use Rattle.container.proofs.Noting.{lost-in}
 use Rattle.container.proofs.Ways.{bad-kind, bad-date, too-large, goes-in}
 use Rattle.container.proofs.judge.Statement.{statement}
 use Rattle.container.proofs.judge.Tie as tie
@@ -13,28 +15,46 @@ a-kind : (e : tie.Else1) → isKind (e .before .before .before .args .kind) ≡ 
 a-kind e = sym (e .before .is-kind .ensures) ∙ not-false _ (e .if1 .left)
 
 returns : tie.Need-returns
-returns c = let a = c .before .before .before .args in bad-kind (a .kind) (a .today) (a .c .now) (sym (c .before .is-kind .ensures) ∙ not-true _ (c .if1 .taken))
+returns c =
+    let t = c .before in
+    let a = t .before .before .before .args in
+    (c .outright .ensures ∙ bad-kind (a .kind) (a .today) (a .c .now) (sym (t .before .is-kind .ensures) ∙ not-true _ (t .if1 .taken)), rw (c .outright .ensures) (lost-in _ _))
 
 returns-2 : tie.Need-returns-2
 returns-2 c =
-    let e = c .before .before in
+    let t = c .before in
+    let e = t .before .before in
     let a = e .before .before .before .args in
-    bad-date (a .kind) (a .today) (a .c .now) (a-kind e) (sym (c .before .is-date .ensures) ∙ not-true _ (c .if2 .taken))
+    (c .outright2 .ensures ∙ bad-date (a .kind) (a .today) (a .c .now) (a-kind e) (sym (t .before .is-date .ensures) ∙ not-true _ (t .if2 .taken)), rw (c .outright2 .ensures) (lost-in _ _))
+
+-- the date is one
+a-date : (e : tie.Else2) → isDate (e .before .before .before .before .before .args .today) ≡ true
+a-date e = sym (e .before .is-date .ensures) ∙ not-false _ (e .if2 .left)
 
 returns-3 : tie.Need-returns-3
 returns-3 c =
-    let d = c .before .before in
-    let e = d .before in
-    let a = e .before .before .before .args in
-    too-large (a .kind) (a .today) (a .c .now) (a-kind e) (sym (d .is-date .ensures) ∙ not-false _ (c .before .if2 .left)) (c .if3 .taken)
+    let t = c .before in
+    let e = t .before in
+    let a = e .before .before .before .before .before .args in
+    (c .outright3 .ensures ∙ too-large (a .kind) (a .today) (a .c .now) (a-kind (e .before .before)) (a-date e) (t .if3 .taken), rw (c .outright3 .ensures) (lost-in _ _))
 
 returns-4 : tie.Need-returns-4
 returns-4 c =
-    let d = c .before .before .before in
-    let e = d .before in
-    let a = e .before .before .before .args in
-    c .whole .ensures
-    ∙ goes-in (a .kind) (a .today) (a .c .now) (a-kind e) (sym (d .is-date .ensures) ∙ not-false _ (c .before .before .if2 .left)) (c .before .if3 .left)
+    let e = c .before .before in
+    let a = e .before .before .before .before .before .args in
+    (c .whole .ensures .0 ∙ goes-in (a .kind) (a .today) (a .c .now) (a-kind (e .before .before)) (a-date e) (c .before .if3 .left), c .whole .ensures .1)
 
 pub judge-spec : {M : Type 1} → statement M
-judge-spec = tie.close (tie.spec (λ c κs. search needs) returns (λ c κs. search needs) returns-2 returns-3 (λ c κs. search needs) returns-4)
+judge-spec =
+    tie.close
+    (tie.spec
+    (λ c κs. search needs)
+    (λ c κs. search needs)
+    returns
+    (λ c κs. search needs)
+    (λ c κs. search needs)
+    returns-2
+    (λ c κs. search needs)
+    returns-3
+    (λ c κs. search needs)
+    returns-4)

@@ -9,6 +9,7 @@ use Rattle.laws.proofs.Bases.{below-of}
 use Rattle.lengths.specs.Length.{lengthAt}
 use Rattle.lengths.specs.declared.Length.the-variants.{Is}
 use Rattle.container.specs.Container.{outerTag}
+use Rattle.container.proofs.Noting.{lost-in}
 use Rattle.container.proofs.Ways.{no-bytes, wrong-tag, no-length, within-outer, off-end, fits-outer}
 use Rattle.container.proofs.whole.Statement.{statement}
 use Rattle.container.proofs.whole.Tie as tie
@@ -29,46 +30,59 @@ within k =
     within-outer (k .before .before .before .before .before .before .before .before .before .args .c .now) (bytes k) z (told k)
 
 returns : tie.Need-returns
-returns c = no-bytes _ _ (c .before .before .args .c .now) (c .if1 .taken)
+returns c = (c .outright .ensures ∙ no-bytes _ _ (c .before .before .before .args .c .now) (c .before .if1 .taken), rw (c .outright .ensures) (lost-in _ _))
 
 returns-2 : tie.Need-returns-2
 returns-2 c =
-    let a = c .before .before .before .before .before .args in
-    wrong-tag (a .kind) (a .today) (a .c .now) (λ q. c .if2 .taken (q ∙ sym (c .before .outer-tag .ensures)))
+    let t = c .before in
+    let a = t .before .before .before .before .before .args in
+    (c .outright2 .ensures ∙ wrong-tag (a .kind) (a .today) (a .c .now) (λ q. t .if2 .taken (q ∙ sym (t .before .outer-tag .ensures))), rw (c .outright2 .ensures) (lost-in _ _))
 
 returns-3 : tie.Need-returns-3
 returns-3 c =
-    let k = c .before in
+    let t = c .before in
+    let k = t .before in
     let e = k .before .before .before .before in
-    let a = e .before .before .before .before .before .args in
-    off-end (a .kind) (a .today) (a .c .now) (bytes k) (e .before .before .before .if1 .left) (tagged e) (told k) (omega (arith, c .if3 .taken))
+    let a = e .before .before .before .before .before .args in (
+      c .outright4 .ensures ∙ off-end (a .kind) (a .today) (a .c .now) (bytes k) (e .before .before .before .if1 .left) (tagged e) (told k) (omega (arith, t .if3 .taken)),
+      rw (c .outright4 .ensures) (lost-in _ _),
+    )
 
 returns-4 : tie.Need-returns-4
 returns-4 c =
-    let e = c .before .before .before in
-    let a = e .before .before .before .before .before .args in
-    no-length (a .kind) (a .today) (a .c .now) (e .before .before .before .if1 .left) (tagged e) (sym (c .enum-told .given .1) ∙ c .before .before .read-length .ensures)
+    let t = c .before in
+    let e = t .before .before .before in
+    let a = e .before .before .before .before .before .args in (
+      c .outright3 .ensures ∙ no-length (a .kind) (a .today) (a .c .now) (e .before .before .before .if1 .left) (tagged e) (sym (t .enum-told .given .1) ∙ t .before .before .read-length .ensures),
+      rw (c .outright3 .ensures) (lost-in _ _),
+    )
 
 returns-5 : tie.Need-returns-5
 returns-5 c =
     let k = c .before .before in
     let e = k .before .before .before .before in
-    let a = e .before .before .before .before .before .args in
-    c .elements .ensures ∙ fits-outer (a .kind) (a .today) (a .c .now) (bytes k) (e .before .before .before .if1 .left) (tagged e) (told k) (omega (arith, c .before .if3 .left))
+    let a = e .before .before .before .before .before .args in (
+      c .elements .ensures .0 ∙ fits-outer (a .kind) (a .today) (a .c .now) (bytes k) (e .before .before .before .if1 .left) (tagged e) (told k) (omega (arith, c .before .if3 .left)),
+      c .elements .ensures .1,
+    )
 
 pub whole-spec : {M : Type 1} → statement M
 whole-spec =
     tie.close
     (tie.spec
+    (λ c κs. search needs)
     returns
     (λ c. search needs)
+    (λ c κs. search needs)
     (λ c κs. search needs)
     returns-2
     (λ c κs. search needs)
     (λ c. search needs)
+    (λ c κs. search needs)
     (λ c. search needs)
     (λ c. omega (arith, within c))
+    (λ c κs. search needs)
     returns-3
-    (λ c κs. within (c .before))
+    (λ c κs. (within (c .before), c .before .before .before .before .before .before .before .before .before .before .pre))
     returns-4
     returns-5)

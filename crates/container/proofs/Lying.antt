@@ -1,0 +1,235 @@
+-- The map's bytes are the container's: what is read stands where the map says, row by row. Assumes nothing.
+use Prim.Native.Nat.{ℕ, zero, suc, _+_, _-_, _<_, _≤_}
+use mathlib.Core.Logic.{inl, inr}
+use mathlib.Core.Path.{_≡_, refl, sym, ap, ap₂, _∙_}
+use mathlib.Core.Bool.{cond}
+use mathlib.Core.Option.{Option, none, some}
+use mathlib.Core.List.{List, [], _∷_, _++_}
+use native.Mathlib.Nat.{add-sub-cancel-left}
+use native.Mathlib.Omega.{arith}
+use lib.Dec.{eqb}
+use lib.ListN.{length, take, drop, getD, set, length-set, length-append, length-drop}
+use lib.Seq.{drop-drop, drop-append-seam, take-append-seam, getD-set-same, getD-set-other}
+use borrow.Author.Tests.{eqb-true, ne-eqb}
+use Rattle.laws.specs.Bytes.{Bytes}
+use Rattle.laws.specs.Room.{zeros}
+use Rattle.laws.specs.Layout.{part}
+use Rattle.laws.proofs.Bases.{below-drop}
+use Rattle.laws.proofs.Cases.{which}
+use Rattle.lengths.specs.Length.{lengthBytes, readLength, Spelt}
+use Rattle.lengths.proofs.Writing.{some-bytes}
+use Rattle.lengths.proofs.Spellings.{inside}
+use Rattle.kinds.specs.Tables.{Entry, Table, table}
+use Rattle.container.specs.Container.{Values, tagBytes, long, tagHere, outerTag, Allowed}
+use Rattle.container.specs.Reading.{Parsed, values, fault, Part, bytesOf, prepend, Element, whole, broken, element, follow, parse, inner, outer, located}
+use Rattle.container.specs.Map.{laid, noted, mapOf, rowValue, shown}
+use Rattle.container.specs.declared.Map.{Map}
+use Rattle.container.proofs.One.{element-is}
+use Rattle.container.proofs.Tags.{tag-is}
+use Rattle.container.proofs.Noting.{none-noted}
+use Rattle.container.proofs.Exact.{no-values}
+use Rattle.container.proofs.Promise.{in-outer-values, located-conforms}
+use Rattle.container.proofs.TempRow.{few-rows}
+
+-- ---- each part stands in the bytes
+
+module _ (c : List ℕ) where
+  -- a part of c, behind its first byte
+  pub record Stands (p : Part) : Type 0 where
+    pub behind : 0 < p .offset
+    pub within : p .offset + length (p .bytes) ≤ length c
+    pub bytes : take (length (p .bytes)) (drop (p .offset) c) ≡ p .bytes
+
+  abbrev pub All : List (Option Part) → Type 0
+  All [] = Unit {0}
+  All (none ∷ ps) = All ps
+  All (some p ∷ ps) = Stands p × All ps
+
+  abbrev Sit : Parsed Part → Type 0
+  Sit (values ps) = All ps
+  Sit (fault f) = Unit {0}
+
+  absent : (p : Parsed Part) → Sit p → Sit (prepend none p)
+  absent (values ps) l = l
+  absent (fault f) l = tt
+
+  present : (q : Part) (p : Parsed Part) → Stands q → Sit p → Sit (prepend (some q) p)
+  present q (values ps) h l = (h, l)
+  present q (fault f) h l = tt
+
+  followed : (at start : ℕ) (x : Element) (k : ℕ → Parsed Part)
+      → ((w : ℕ) (v : List ℕ) → x ≡ whole w v → Stands (record { offset = start + w; bytes = v }) × Sit (k (w + length v))) → Sit (follow at start x k)
+  followed at start (whole w v) k h = let s = h w v refl in present _ (k (w + length v)) (s .0) (s .1)
+  followed at start (broken f) k h = tt
+
+  module _ (today : ℕ) (all : Table) where
+    element-stands : (r : Entry) (at x : ℕ) (s : List ℕ) → Bytes (x ∷ s) → x ∷ s ≡ drop at c → tagHere all x s ≡ r .tag → (w : ℕ) (v : List ℕ)
+        → element (r .lengths) (r .rule) today (drop (long (r .tag)) (x ∷ s)) ≡ whole w v → Stands (record { offset = at + long (r .tag) + w; bytes = v })
+    element-stands r at x s b e q w v is =
+        let body = drop (long (r .tag)) (x ∷ s) in
+        let g = element-is (r .lengths) (r .rule) today body (below-drop 256 (long (r .tag)) (x ∷ s) b) w v is in
+        let rest = drop (w + length v) body in
+        let y : drop w (lengthBytes (length v) ++ (v ++ rest)) ≡ v ++ rest = ap (λ (k : ℕ). drop k (lengthBytes (length v) ++ (v ++ rest))) (g .1) ∙ drop-append-seam (lengthBytes (length v)) (v ++ rest) in
+        let d : drop (at + long (r .tag) + w) c ≡ v ++ rest =
+        sym (drop-drop w (at + long (r .tag)) c) ∙ ap (drop w) (sym (ap (drop (long (r .tag))) e ∙ drop-drop (long (r .tag)) at c) ∙ g .2) ∙ y in
+        let l : length c - (at + long (r .tag) + w) ≡ length v + length rest = sym (length-drop (at + long (r .tag) + w) c) ∙ ap length d ∙ length-append v rest in
+        let t = ap length (rw q at (tag-is all x s (b .0))) ∙ length-append (tagBytes (r .tag)) body in
+        let m = ap length e ∙ length-drop at c in
+        let n = ap length (g .2) ∙ length-append (lengthBytes (length v)) (v ++ rest) in
+        record {
+          behind = omega (arith, g .1, some-bytes (length v));
+          within = omega (arith, l, t, m, n, g .1, length-append v rest);
+          bytes = ap (take (length v)) d ∙ take-append-seam v rest;
+        }
+
+    parse-sits : (rest : Table) (at : ℕ) (s : List ℕ) → Bytes s → s ≡ drop at c → Sit (parse today all rest at s)
+    parse-sits [] at [] b e = tt
+    parse-sits [] at (x ∷ s) b e = tt
+    parse-sits (r ∷ rs) at [] b e =
+        elim (which (r .optional)) [
+          | inl o ↦ rw o (absent (parse today all rs at []) (parse-sits rs at [] b e))
+          | inr o ↦ rw o tt
+        ]
+    parse-sits (r ∷ rs) at (x ∷ s) b e =
+        elim (which (eqb (tagHere all x s) (r .tag))) [
+          | inl q ↦
+              rw q
+              (followed at (at + long (r .tag)) (element (r .lengths) (r .rule) today (drop (long (r .tag)) (x ∷ s))) (λ n. parse today all rs (at + long (r .tag) + n) (drop (long (r .tag) + n) (x ∷ s)))
+              (λ w v is. (
+                element-stands r at x s b e (eqb-true _ _ q) w v is,
+                parse-sits rs (at + long (r .tag) + (w + length v)) (drop (long (r .tag) + (w + length v)) (x ∷ s)) (below-drop 256 (long (r .tag) + (w + length v)) (x ∷ s) b) (onward (r .tag) at (w + length v) x s e),
+              )))
+          | inr q ↦
+              elim (which (r .optional)) [
+                | inl o ↦ rw (q, o) (absent (parse today all rs at (x ∷ s)) (parse-sits rs at (x ∷ s) b e))
+                | inr o ↦ rw (q, o) tt
+              ]
+        ]
+      where
+        onward : (t at n x : ℕ) (s : List ℕ) → x ∷ s ≡ drop at c → drop (long t + n) (x ∷ s) ≡ drop (at + long t + n) c
+        onward t at n x s e =
+            let z : at + (long t + n) ≡ at + long t + n = omega arith in
+            ap (drop (long t + n)) e ∙ drop-drop (long t + n) at c ∙ rw z
+
+outer-sits : (kind today : ℕ) (c : List ℕ) → Bytes c → (ps : List (Option Part)) → outer kind today c ≡ values ps → All c ps
+outer-sits kind today [] b ps e = absurd (no-values e)
+outer-sits kind today (t ∷ s) b ps e =
+    elim (which (eqb t (outerTag kind))) [
+      | inl q ↦ go (readLength s) (rw q at e)
+      | inr q ↦ absurd (no-values (rw q at e))
+    ]
+  where
+    rows : (p : Parsed Part) → p ≡ values ps → Sit (t ∷ s) p → All (t ∷ s) ps
+    rows (values qs) e h = let z : qs ≡ ps = cc in rw z at h
+    rows (fault f) e h = absurd (no-values e)
+
+    go : (o : Option Spelt) → inner today (table kind) o s ≡ values ps → All (t ∷ s) ps
+    go none e = absurd (no-values e)
+    go (some n) e =
+        elim (which (eqb (length s) (n .width + n .number))) [
+          | inl q ↦
+              rows (parse today (table kind) (table kind) (1 + n .width) (drop (n .width) s)) (rw q at e)
+              (parse-sits (t ∷ s) today (table kind) (table kind) (1 + n .width) (drop (n .width) s) (below-drop 256 (n .width) s (b .1)) (drop-drop (n .width) 1 (t ∷ s)))
+          | inr q ↦ absurd (no-values (rw q at e))
+        ]
+
+-- what is read stands in the container
+pub stands : (kind today : ℕ) (c : List ℕ) → Bytes c → (ps : List (Option Part)) → located kind today c ≡ values ps → All c ps
+stands kind today c b ps e = outer-sits kind today c b ps (in-outer-values kind today c ps e .3)
+
+-- ---- the map has it there
+
+-- from where to where a part lies, 0 and 0 where there is none
+abbrev pub startOf : Option Part → ℕ
+startOf none = 0
+startOf (some p) = p .offset
+
+abbrev pub endOf : Option Part → ℕ
+endOf none = 0
+endOf (some p) = p .offset + length (p .bytes)
+
+-- a map notes these parts from the row k on
+abbrev Notes : Map → ℕ → List (Option Part) → Type 0
+Notes m k ps = (i : ℕ) → i < length ps → (getD (m .from) (k + i) 0 ≡ startOf (getD ps i none)) × (getD (m .to) (k + i) 0 ≡ endOf (getD ps i none))
+
+-- rows behind stay as they are
+laid-before : (ps : List (Option Part)) (k : ℕ) (from to : List ℕ) (j : ℕ) → j < k → (getD (laid ps k from to .from) j 0 ≡ getD from j 0) × (getD (laid ps k from to .to) j 0 ≡ getD to j 0)
+laid-before [] k from to j h = (refl, refl)
+laid-before (none ∷ ps) k from to j h = laid-before ps (suc k) from to j (omega arith)
+laid-before (some p ∷ ps) k from to j h =
+    let l = laid-before ps (suc k) (set from k (p .offset)) (set to k (p .offset + length (p .bytes))) j (omega arith) in
+    (l .0 ∙ getD-set-other from k j (p .offset) 0 (λ e. omega arith), l .1 ∙ getD-set-other to k j (p .offset + length (p .bytes)) 0 (λ e. omega arith))
+
+-- nothing is noted from the row k on
+abbrev Empty : List ℕ → ℕ → Type 0
+Empty l k = (j : ℕ) → k ≤ j → getD l j 0 ≡ 0
+
+-- the first row, and the others
+notes-next : (m : Map) (k : ℕ) (o : Option Part) (ps : List (Option Part)) → (getD (m .from) k 0 ≡ startOf o) × (getD (m .to) k 0 ≡ endOf o) → Notes m (suc k) ps → Notes m k (o ∷ ps)
+notes-next m k o ps h n zero l = let z : k + zero ≡ k = omega arith in rw z h
+notes-next m k o ps h n (suc i) l = let z : k + suc i ≡ suc k + i = omega arith in rw z (n i (omega arith))
+
+laid-notes : (ps : List (Option Part)) (k : ℕ) (from to : List ℕ) → k + length ps ≤ length from → k + length ps ≤ length to → Empty from k → Empty to k → Notes (laid ps k from to) k ps
+laid-notes [] k from to a b e f = λ i h. absurd (omega arith)
+laid-notes (none ∷ ps) k from to a b e f =
+    let l = laid-before ps (suc k) from to k (omega arith) in
+    notes-next (laid ps (suc k) from to) k none ps (l .0 ∙ e k (omega arith), l .1 ∙ f k (omega arith))
+    (laid-notes ps (suc k) from to (omega arith) (omega arith) (λ j g. e j (omega arith)) (λ j g. f j (omega arith)))
+laid-notes (some p ∷ ps) k from to a b e f =
+    let from′ = set from k (p .offset) in
+    let to′ = set to k (p .offset + length (p .bytes)) in
+    let l = laid-before ps (suc k) from′ to′ k (omega arith) in
+    notes-next (laid ps (suc k) from′ to′) k (some p) ps
+    (l .0 ∙ getD-set-same from k (p .offset) 0 (omega arith), l .1 ∙ getD-set-same to k (p .offset + length (p .bytes)) 0 (omega arith))
+    (laid-notes ps (suc k) from′ to′ (rw length-set (omega arith)) (rw length-set (omega arith))
+    (λ j g. getD-set-other from k j (p .offset) 0 (λ q. omega arith) ∙ e j (omega arith))
+    (λ j g. getD-set-other to k j (p .offset + length (p .bytes)) 0 (λ q. omega arith) ∙ f j (omega arith)))
+
+-- a value for each row
+allowed-long : (today : ℕ) (rs : Table) (ps : List (Option Part)) → Allowed today rs (bytesOf ps) → length ps ≡ length rs
+allowed-long today [] [] a = refl
+allowed-long today [] (none ∷ ps) a = absurd a
+allowed-long today [] (some p ∷ ps) a = absurd a
+allowed-long today (r ∷ rs) [] a = absurd a
+allowed-long today (r ∷ rs) (none ∷ ps) a = ap suc (allowed-long today rs ps (a .1))
+allowed-long today (r ∷ rs) (some p ∷ ps) a = ap suc (allowed-long today rs ps (a .1))
+
+module _ (kind today : ℕ) (c : List ℕ) (b : Bytes c) (ps : List (Option Part)) (e : located kind today c ≡ values ps) where
+  pub rows-are : length ps ≡ length (table kind)
+  rows-are = allowed-long today (table kind) ps (located-conforms kind today c b ps e .allowed)
+
+  -- where each row lies
+  pub lies : (i : ℕ) → i < length ps
+      → (getD (mapOf (located kind today c) .from) i 0 ≡ startOf (getD ps i none)) × (getD (mapOf (located kind today c) .to) i 0 ≡ endOf (getD ps i none))
+  unfolding noted
+  lies i h =
+      let z : 0 + i ≡ i = omega arith in
+      let n = laid-notes ps 0 (zeros 16) (zeros 16) (omega (arith, rows-are, few-rows kind)) (omega (arith, rows-are, few-rows kind)) (λ j g. none-noted j) (λ j g. none-noted j) i h in
+      rw e (rw z at n)
+
+-- ---- and shows its bytes
+
+row-shows : (m : Map) (c : List ℕ) (i : ℕ) (p : Part) → Stands c p → (getD (m .from) i 0 ≡ p .offset) × (getD (m .to) i 0 ≡ p .offset + length (p .bytes)) → rowValue m c i ≡ some (p .bytes)
+row-shows m c i p s h =
+    let n : p .offset + length (p .bytes) ≡ 0 → ⊥ = λ e. omega (arith, s .behind) in
+    rw (h .0, h .1, ne-eqb _ _ n, add-sub-cancel-left, s .bytes)
+
+-- the first row of some
+first-notes : (m : Map) (k : ℕ) (o : Option Part) (ps : List (Option Part)) → Notes m k (o ∷ ps) → (getD (m .from) k 0 ≡ startOf o) × (getD (m .to) k 0 ≡ endOf o)
+first-notes m k o ps n = let z : k + 0 ≡ k = omega arith in rw z at (n 0 (omega arith))
+
+later-notes : (m : Map) (k : ℕ) (o : Option Part) (ps : List (Option Part)) → Notes m k (o ∷ ps) → Notes m (suc k) ps
+later-notes m k o ps n i l = let z : k + suc i ≡ suc k + i = omega arith in rw z at (n (suc i) (omega arith))
+
+rows-show : (m : Map) (c : List ℕ) (ps : List (Option Part)) (k : ℕ) → All c ps → Notes m k ps → shown m c (length ps) k ≡ bytesOf ps
+unfolding shown
+rows-show m c [] k a n = refl
+rows-show m c (none ∷ ps) k a n = rw (first-notes m k none ps n .1) (ap (λ (l : Values). none ∷ l) (rows-show m c ps (suc k) a (later-notes m k none ps n)))
+rows-show m c (some p ∷ ps) k a n =
+    ap₂ (λ (o : Option (List ℕ)) (l : Values). o ∷ l) (row-shows m c k p (a .0) (first-notes m k (some p) ps n)) (rows-show m c ps (suc k) (a .1) (later-notes m k (some p) ps n))
+
+-- the values that the map shows are those that were read
+pub shows : (kind today : ℕ) (c : List ℕ) → Bytes c → (ps : List (Option Part)) → located kind today c ≡ values ps → shown (mapOf (located kind today c)) c (length (table kind)) 0 ≡ bytesOf ps
+shows kind today c b ps e =
+    rw (← rows-are kind today c b ps e)
+    (rows-show (mapOf (located kind today c)) c ps 0 (stands kind today c b ps e) (λ i h. let z : 0 + i ≡ i = omega arith in rw z (lies kind today c b ps e i h)))
