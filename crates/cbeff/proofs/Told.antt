@@ -16,7 +16,7 @@ use Rattle.laws.proofs.Layouts.{field-one}
 use Rattle.laws.proofs.Formats.{LongEnough, long-enough, cond-and, cond-same}
 use Rattle.verdicts.specs.Verdicts.{ruled}
 use Rattle.verdicts.specs.declared.Fault.{Fault}
-use Rattle.verdicts.specs.declared.Rule.the-variants.{Kept, Breaks}
+use Rattle.verdicts.specs.declared.Ruling.the-variants.{Kept, Breaks}
 use Rattle.verdicts.specs.declared.Fault.the-variants.{BadHeader, BadFascn, BadMinutiae}
 use Rattle.fascn.specs.Reading.{isFascn}
 use Rattle.cbeff.specs.Header.{data-part, header}

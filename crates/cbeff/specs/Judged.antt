@@ -6,8 +6,8 @@ use lib.ListN.{length, getD}
 use lib.Dec.{leb, eqb}
 use Rattle.laws.specs.Layout.{field, part}
 use Rattle.laws.specs.Tests.{all}
-use Rattle.verdicts.specs.declared.Rule.{Rule}
-use Rattle.verdicts.specs.declared.Rule.the-variants.{Kept, Breaks}
+use Rattle.verdicts.specs.declared.Ruling.{Ruling}
+use Rattle.verdicts.specs.declared.Ruling.the-variants.{Kept, Breaks}
 use Rattle.verdicts.specs.declared.Fault.the-variants.{BadHeader, BadFascn, BadMinutiae}
 use Rattle.fascn.specs.Reading.{isFascn}
 use Rattle.dates.specs.Moment.{isMoment}
@@ -45,7 +45,7 @@ abbrev pub opens : Biometric → List ℕ → Bool
 opens b v = sizesHold (b .format) (field v 2 4) v && datesHold v && formHolds b v
 
 -- the whole: the FASC-N, the reserved bytes and the data in this order, where the fields before them are as they should be
-unfoldable pub judged : Biometric → List ℕ → Rule
+unfoldable pub judged : Biometric → List ℕ → Ruling
 judged b v =
     cond (leb 88 (length v) && opens b v)
     (cond (isFascn (part v 59 25))

@@ -14,7 +14,7 @@ use numbers::number;
 use plain::is_creator;
 use plain::is_quality;
 use verdicts::Fault;
-use verdicts::Rule;
+use verdicts::Ruling;
 
 // What the data part of a format is.
 pub enum Body {
@@ -113,32 +113,32 @@ fn data_holds(body: Body, bytes: &[u8]) -> bool
 
 // The value of a BC of this format, judged in the order of the rules: a value that is too short for its header breaks the
 // length rule, and every fault that could come before that one is the same.
-pub fn judge(b: Biometric, v: &[u8]) -> Rule
+pub fn judge(b: Biometric, v: &[u8]) -> Ruling
     ensures { λ r. ⌜ r ≡ ruled (judge (header b (length (now (v .entry)))) 0 (now (v .entry))) ⌝ }
 {
     if v.len() < 88 {
-        return Rule::Breaks(Fault::BadHeader);
+        return Ruling::Breaks(Fault::BadHeader);
     }
     let d = number(v, 2, 4);
     if !sizes_hold(b.format, d, v) {
-        return Rule::Breaks(Fault::BadHeader);
+        return Ruling::Breaks(Fault::BadHeader);
     }
     if !dates_hold(v) {
-        return Rule::Breaks(Fault::BadHeader);
+        return Ruling::Breaks(Fault::BadHeader);
     }
     if !form_holds(b, v) {
-        return Rule::Breaks(Fault::BadHeader);
+        return Ruling::Breaks(Fault::BadHeader);
     }
     if !is_fascn(&v[59..84]) {
-        return Rule::Breaks(Fault::BadFascn);
+        return Ruling::Breaks(Fault::BadFascn);
     }
     if number(v, 84, 4) != 0 {
-        return Rule::Breaks(Fault::BadHeader);
+        return Ruling::Breaks(Fault::BadHeader);
     }
     let body = b.body;
     let end = 88 + d as usize;
     if !data_holds(body, &v[88..end]) {
-        return Rule::Breaks(Fault::BadMinutiae);
+        return Ruling::Breaks(Fault::BadMinutiae);
     }
-    Rule::Kept
+    Ruling::Kept
 }

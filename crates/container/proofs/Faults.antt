@@ -20,8 +20,8 @@ use Rattle.kinds.specs.declared.ValueRule.{ValueRule}
 use Rattle.rules.specs.Rules.{ruleOf}
 use Rattle.rules.proofs.Exact.{broken-exact}
 use Rattle.verdicts.specs.declared.Fault.{Fault}
-use Rattle.verdicts.specs.declared.Rule.{Rule}
-use Rattle.verdicts.specs.declared.Rule.the-variants.{Kept, Breaks}
+use Rattle.verdicts.specs.declared.Ruling.{Ruling}
+use Rattle.verdicts.specs.declared.Ruling.the-variants.{Kept, Breaks}
 use Rattle.container.specs.Reading.{broken, ended, sized, within, element}
 use Rattle.container.specs.InOrder.{IsLength, Faulty, no-length, past-end, not-permitted, bad-value}
 use Rattle.container.proofs.One.{no-whole, permitted-exact}
@@ -53,7 +53,7 @@ module _ (l : Lengths) (rule : ValueRule) (today : ℕ) (f : Fault) where
   fault-is : {g : Fault} → broken g ≡ broken f → f ≡ g
   fault-is e = cc
 
-  ended-broken : (v : List ℕ) (size : ℕ) (r : Rule) → ended v size r ≡ broken f → r ≡ Breaks f
+  ended-broken : (v : List ℕ) (size : ℕ) (r : Ruling) → ended v size r ≡ broken f → r ≡ Breaks f
   ended-broken v size Kept e = absurd (no-whole (sym e))
   ended-broken v size (Breaks g) e = ap Breaks (sym (fault-is e))
 

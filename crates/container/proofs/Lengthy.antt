@@ -19,7 +19,7 @@ use Rattle.kinds.specs.declared.ValueRule.{ValueRule}
 use Rattle.rules.specs.Rules.{ruleOf}
 use Rattle.verdicts.specs.declared.Fault.{Fault}
 use Rattle.verdicts.specs.declared.Fault.the-variants.{LengthForm, Overrun, ElementLength}
-use Rattle.verdicts.specs.declared.Rule.the-variants.{Kept, Breaks}
+use Rattle.verdicts.specs.declared.Ruling.the-variants.{Kept, Breaks}
 use Rattle.container.specs.Reading.{element, within}
 use Rattle.container.specs.Step.{valueAt, lengthsOf}
 use Rattle.container.specs.declared.Value.the-variants.{Bad, Whole}

@@ -20,8 +20,8 @@ use Rattle.kinds.specs.declared.ValueRule.{ValueRule}
 use Rattle.rules.specs.Rules.{ruleOf}
 use Rattle.rules.proofs.Exact.{value-exact}
 use Rattle.verdicts.specs.declared.Fault.{Fault}
-use Rattle.verdicts.specs.declared.Rule.{Rule}
-use Rattle.verdicts.specs.declared.Rule.the-variants.{Kept, Breaks}
+use Rattle.verdicts.specs.declared.Ruling.{Ruling}
+use Rattle.verdicts.specs.declared.Ruling.the-variants.{Kept, Breaks}
 use Rattle.container.specs.Container.{Fits}
 use Rattle.container.specs.Reading.{whole, broken, ended, sized, within, element}
 
@@ -49,7 +49,7 @@ module _ (l : Lengths) (rule : ValueRule) (today : ℕ) where
   abbrev pub Good : List ℕ → Type 0
   Good v = (permitted l (length v) ≡ true) × (ruleOf rule today v ≡ Kept)
 
-  ended-is : (w v : List ℕ) (m n : ℕ) (r : Rule) → ended w m r ≡ whole v n → (w ≡ v) × (m ≡ n) × (r ≡ Kept)
+  ended-is : (w v : List ℕ) (m n : ℕ) (r : Ruling) → ended w m r ≡ whole v n → (w ≡ v) × (m ≡ n) × (r ≡ Kept)
   ended-is w v m n Kept e = (cc, cc, refl)
   ended-is w v m n (Breaks f) e = absurd (no-whole e)
 

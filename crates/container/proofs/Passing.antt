@@ -8,7 +8,7 @@ use lib.ListN.{take, drop, take-append-drop}
 use lib.Seq.{take-add}
 use Rattle.laws.specs.Layout.{part}
 use Rattle.kinds.specs.Tables.{rowAt}
-use Rattle.kinds.specs.declared.Place.the-variants.{Holds, End}
+use Rattle.kinds.specs.declared.Slot.the-variants.{Holds, End}
 use Rattle.container.specs.Container.{Values, Conforms}
 use Rattle.container.specs.Places.{foundAt, firstElement}
 use Rattle.container.specs.declared.Found.the-variants.{At, Absent}

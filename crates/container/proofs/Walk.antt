@@ -14,7 +14,7 @@ use lib.Seq.{drop-drop, drop-append-seam, take-append-seam}
 use Rattle.lengths.specs.Length.{lengthBytes, readLength}
 use Rattle.lengths.proofs.Spellings.{reads-back}
 use Rattle.kinds.specs.Tables.{Entry, Table, table, first, rowAt}
-use Rattle.kinds.specs.declared.Place.the-variants.{Holds, End}
+use Rattle.kinds.specs.declared.Slot.the-variants.{Holds, End}
 use Rattle.container.specs.Container.{Values, tagBytes, long, encode, Allowed, Conforms}
 use Rattle.container.specs.Places.{start, begin, past, foundAt, firstElement}
 use Rattle.container.specs.declared.Found.the-variants.{At, Absent}

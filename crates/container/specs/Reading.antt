@@ -14,8 +14,8 @@ use Rattle.rules.specs.Rules.{ruleOf}
 use Rattle.verdicts.specs.Verdicts.{verdictOf}
 use Rattle.verdicts.specs.declared.Fault.{Fault}
 use Rattle.verdicts.specs.declared.Fault.the-variants.{UnknownKind, NoDate, LargeContainer, OuterTag, LengthForm, Overrun, UnknownTag, TagOrder, MissingRow, ElementLength}
-use Rattle.verdicts.specs.declared.Rule.{Rule}
-use Rattle.verdicts.specs.declared.Rule.the-variants.{Kept, Breaks}
+use Rattle.verdicts.specs.declared.Ruling.{Ruling}
+use Rattle.verdicts.specs.declared.Ruling.the-variants.{Kept, Breaks}
 use Rattle.verdicts.specs.declared.Outcome.{Outcome}
 use Rattle.verdicts.specs.declared.Outcome.the-variants.{Fine, Broken}
 use Rattle.verdicts.specs.declared.Verdict.{Verdict}
@@ -35,7 +35,7 @@ pub data Element : Type 0 where
   whole : List ℕ → ℕ → Element
   broken : Fault → Element
 
-abbrev pub ended : List ℕ → ℕ → Rule → Element
+abbrev pub ended : List ℕ → ℕ → Ruling → Element
 ended v size Kept = whole v size
 ended v size (Breaks f) = broken f
 

@@ -12,7 +12,7 @@ use kinds::ValueRule;
 use lengths::Length;
 use verdicts::Fault;
 use verdicts::Outcome;
-use verdicts::Rule;
+use verdicts::Ruling;
 use verdicts::Verdict;
 
 // What the bytes after an element's tag come to: the fault, or the end of the value.
@@ -57,8 +57,8 @@ fn value_at(
             }
             let end = next + n;
             match rules::judge(rule, today, &c[next..end]) {
-                Rule::Kept => Value::Whole(end),
-                Rule::Breaks(f) => Value::Bad(f),
+                Ruling::Kept => Value::Whole(end),
+                Ruling::Breaks(f) => Value::Bad(f),
             }
         }
     }

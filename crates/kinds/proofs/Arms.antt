@@ -8,7 +8,7 @@ use lib.ListN.{length, drop, drop-of-length-le}
 use borrow.Author.Tests.{ne-eqb}
 use Rattle.kinds.specs.Tables.{Table, table, find, rowOf, first, rowAt, lastOf, lastRow}
 use Rattle.kinds.specs.declared.Row.the-variants.{Missing}
-use Rattle.kinds.specs.declared.Place.the-variants.{End}
+use Rattle.kinds.specs.declared.Slot.the-variants.{End}
 
 -- what a default knows, as the borrow checker nests it: the number is none of these
 abbrev pub Others : List ℕ → ℕ → Type 0 → Type 0

@@ -10,8 +10,8 @@ use Rattle.kinds.specs.declared.ValueRule.{ValueRule}
 use Rattle.kinds.specs.declared.ValueRule.the-variants.{Free, Fascn, Uuid, Expiry, Model, Application, Policy, Text, Date, Fingers, Face}
 use Rattle.kinds.specs.declared.Row.{Row}
 use Rattle.kinds.specs.declared.Row.the-variants.{At, Missing}
-use Rattle.kinds.specs.declared.Place.{Place}
-use Rattle.kinds.specs.declared.Place.the-variants.{Holds, End}
+use Rattle.kinds.specs.declared.Slot.{Slot}
+use Rattle.kinds.specs.declared.Slot.the-variants.{Holds, End}
 
 -- ---- "Numbers are permitted lengths": from least to most, and 0 too where empty is true
 
@@ -170,11 +170,11 @@ abbrev pub rowOf : ℕ → ℕ → Row
 rowOf kind t = find 0 0 (table kind) t
 
 -- the first of some rows
-abbrev pub first : Table → Place
+abbrev pub first : Table → Slot
 first [] = End
 first (r ∷ rs) = Holds (r .tag) (r .optional)
 
-abbrev pub rowAt : ℕ → ℕ → Place
+abbrev pub rowAt : ℕ → ℕ → Slot
 rowAt kind index = first (drop index (table kind))
 
 -- the last mandatory row, after i rows of which number `from` was the last

@@ -26,7 +26,7 @@ pub enum Row {
 }
 
 // What a kind's table has at a row's number, counted from 0.
-pub enum Place {
+pub enum Slot {
     // The row's tag, and whether it is optional.
     Holds(u64, bool),
     End,
@@ -110,73 +110,73 @@ pub fn row_of(kind: u64, tag: u64) -> Row
 }
 
 // The row with this number, counted from 0: what is written goes through the rows in order.
-pub fn row_at(kind: u64, index: u64) -> Place
+pub fn row_at(kind: u64, index: u64) -> Slot
     ensures { λ r. ⌜ r ≡ rowAt kind index ⌝ }
 {
     match kind {
         1 => match index {
-            0 => Place::Holds(0xF0, false),
-            1 => Place::Holds(0xF1, false),
-            2 => Place::Holds(0xF2, false),
-            3 => Place::Holds(0xF3, false),
-            4 => Place::Holds(0xF4, false),
-            5 => Place::Holds(0xF5, false),
-            6 => Place::Holds(0xF6, false),
-            7 => Place::Holds(0xF7, false),
-            8 => Place::Holds(0xFA, false),
-            9 => Place::Holds(0xFB, false),
-            10 => Place::Holds(0xFC, false),
-            11 => Place::Holds(0xFD, false),
-            12 => Place::Holds(0xE3, true),
-            13 => Place::Holds(0xB4, true),
-            14 => Place::Holds(0xFE, false),
-            _ => Place::End,
+            0 => Slot::Holds(0xF0, false),
+            1 => Slot::Holds(0xF1, false),
+            2 => Slot::Holds(0xF2, false),
+            3 => Slot::Holds(0xF3, false),
+            4 => Slot::Holds(0xF4, false),
+            5 => Slot::Holds(0xF5, false),
+            6 => Slot::Holds(0xF6, false),
+            7 => Slot::Holds(0xF7, false),
+            8 => Slot::Holds(0xFA, false),
+            9 => Slot::Holds(0xFB, false),
+            10 => Slot::Holds(0xFC, false),
+            11 => Slot::Holds(0xFD, false),
+            12 => Slot::Holds(0xE3, true),
+            13 => Slot::Holds(0xB4, true),
+            14 => Slot::Holds(0xFE, false),
+            _ => Slot::End,
         },
         2 => match index {
-            0 => Place::Holds(0xEE, true),
-            1 => Place::Holds(0x30, false),
-            2 => Place::Holds(0x32, true),
-            3 => Place::Holds(0x33, true),
-            4 => Place::Holds(0x34, false),
-            5 => Place::Holds(0x35, false),
-            6 => Place::Holds(0x36, true),
-            7 => Place::Holds(0x3E, false),
-            8 => Place::Holds(0xFE, false),
-            _ => Place::End,
+            0 => Slot::Holds(0xEE, true),
+            1 => Slot::Holds(0x30, false),
+            2 => Slot::Holds(0x32, true),
+            3 => Slot::Holds(0x33, true),
+            4 => Slot::Holds(0x34, false),
+            5 => Slot::Holds(0x35, false),
+            6 => Slot::Holds(0x36, true),
+            7 => Slot::Holds(0x3E, false),
+            8 => Slot::Holds(0xFE, false),
+            _ => Slot::End,
         },
         3 => match index {
-            0 => Place::Holds(0x4F, false),
-            1 => Place::Holds(0x5F2F, false),
-            _ => Place::End,
+            0 => Slot::Holds(0x4F, false),
+            1 => Slot::Holds(0x5F2F, false),
+            _ => Slot::End,
         },
         4 => match index {
-            0 => Place::Holds(0x01, false),
-            1 => Place::Holds(0x02, false),
-            2 => Place::Holds(0x04, false),
-            3 => Place::Holds(0x05, false),
-            4 => Place::Holds(0x06, false),
-            5 => Place::Holds(0x07, true),
-            6 => Place::Holds(0x08, true),
-            7 => Place::Holds(0xFE, false),
-            _ => Place::End,
+            0 => Slot::Holds(0x01, false),
+            1 => Slot::Holds(0x02, false),
+            2 => Slot::Holds(0x04, false),
+            3 => Slot::Holds(0x05, false),
+            4 => Slot::Holds(0x06, false),
+            5 => Slot::Holds(0x07, true),
+            6 => Slot::Holds(0x08, true),
+            7 => Slot::Holds(0xFE, false),
+            _ => Slot::End,
         },
         5 => match index {
-            0 => Place::Holds(0xBA, false),
-            1 => Place::Holds(0xBB, false),
-            2 => Place::Holds(0xFE, false),
-            _ => Place::End,
+            0 => Slot::Holds(0xBA, false),
+            1 => Slot::Holds(0xBB, false),
+            2 => Slot::Holds(0xFE, false),
+            _ => Slot::End,
         },
         6 => match index {
-            0 => Place::Holds(0xBC, false),
-            1 => Place::Holds(0xFE, false),
-            _ => Place::End,
+            0 => Slot::Holds(0xBC, false),
+            1 => Slot::Holds(0xFE, false),
+            _ => Slot::End,
         },
         7 => match index {
-            0 => Place::Holds(0xBC, false),
-            1 => Place::Holds(0xFE, false),
-            _ => Place::End,
+            0 => Slot::Holds(0xBC, false),
+            1 => Slot::Holds(0xFE, false),
+            _ => Slot::End,
         },
-        _ => Place::End,
+        _ => Slot::End,
     }
 }
 

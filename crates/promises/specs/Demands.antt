@@ -25,7 +25,7 @@ use Rattle.verdicts.specs.declared.Fault.the-variants.{UnknownKind, NoDate, Lar
 use Rattle.verdicts.specs.declared.Verdict.{Verdict}
 use Rattle.verdicts.specs.declared.Done.{Done}
 use Rattle.kinds.specs.Tables.{table, IsKind, rowAt}
-use Rattle.kinds.specs.declared.Place.the-variants.{Holds}
+use Rattle.kinds.specs.declared.Slot.the-variants.{Holds}
 use Rattle.container.specs.Container.{Values, Conforms, largest}
 use Rattle.container.specs.Reading.{values, fault, parsed}
 use Rattle.container.specs.InOrder.{Named}

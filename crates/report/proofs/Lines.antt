@@ -12,7 +12,7 @@ use Rattle.laws.specs.Layout.{part}
 use Rattle.laws.specs.Room.{Put}
 use Rattle.laws.proofs.Rooms.{then, nothing}
 use Rattle.kinds.specs.Tables.{Table, table, first, rowAt}
-use Rattle.kinds.specs.declared.Place.the-variants.{Holds}
+use Rattle.kinds.specs.declared.Slot.the-variants.{Holds}
 use Rattle.container.specs.Container.{Values}
 use Rattle.report.specs.Report.{elementLine, elementLines, elementCount}
 

@@ -20,7 +20,7 @@ ghost use Rattle.report.specs.Writers.{Writes, dayNumber};
 use container::Found;
 use dates::Date;
 use fascn::Decoded;
-use kinds::Place;
+use kinds::Slot;
 use verdicts::Done;
 use verdicts::Fault;
 use verdicts::Outcome;
@@ -96,7 +96,7 @@ fn element_count(kind: u64, c: &[u8]) -> u64
     let mut count: u64 = 0;
     let mut from = container::first_element(c);
     let mut row: u64 = 0;
-    while let Place::Holds(tag, _) = kinds::row_at(kind, row) {
+    while let Slot::Holds(tag, _) = kinds::row_at(kind, row) {
         row += 1;
         if let Found::At(_, end) = container::found_at(kind, tag, c, from) {
             count += 1;
@@ -129,7 +129,7 @@ fn put_lines(kind: u64, c: &[u8], out: &mut [u8]) -> usize
     let mut at = 0;
     let mut from = container::first_element(c);
     let mut row: u64 = 0;
-    while let Place::Holds(tag, _) = kinds::row_at(kind, row) {
+    while let Slot::Holds(tag, _) = kinds::row_at(kind, row) {
         row += 1;
         if let Found::At(start, end) = container::found_at(kind, tag, c, from) {
             at += put_element(tag, &c[start..end], &mut out[at..]);

@@ -14,8 +14,8 @@ use Rattle.laws.proofs.Cases.{same-exact}
 use Rattle.verdicts.specs.Verdicts.{unless, ruled}
 use Rattle.verdicts.specs.declared.Fault.{Fault}
 use Rattle.verdicts.specs.declared.Fault.the-variants.{BadFascn, BadUuid, BadDate, BadFixed, BadText}
-use Rattle.verdicts.specs.declared.Rule.{Rule}
-use Rattle.verdicts.specs.declared.Rule.the-variants.{Kept, Breaks}
+use Rattle.verdicts.specs.declared.Ruling.{Ruling}
+use Rattle.verdicts.specs.declared.Ruling.the-variants.{Kept, Breaks}
 use Rattle.kinds.specs.declared.ValueRule.{ValueRule}
 use Rattle.kinds.specs.declared.ValueRule.the-variants.{Free, Fascn, Uuid, Expiry, Model, Application, Policy, Text, Date, Fingers, Face}
 use Rattle.dates.specs.Date.{IsTextDate, dateOf, inWindow}
@@ -82,11 +82,11 @@ value-exact Face today v b = by-judge (judge (header face (length v)) 0 v) (face
 -- ---- a broken rule
 
 -- an answer that knows one fault
-abbrev Only : Fault → Rule → Type 0
+abbrev Only : Fault → Ruling → Type 0
 Only x Kept = Unit {0}
 Only x (Breaks f) = f ≡ x
 
-one-fault : {P : Type 0} (x f : Fault) (r : Rule) → Only x r → ((r ≡ Kept) ↔ P) → (r ≡ Breaks f) ↔ ((P → ⊥) × (f ≡ x))
+one-fault : {P : Type 0} (x f : Fault) (r : Ruling) → Only x r → ((r ≡ Kept) ↔ P) → (r ≡ Breaks f) ↔ ((P → ⊥) × (f ≡ x))
 one-fault x f Kept o p = (λ e. absurd (no-kept (sym e)), λ h. absurd (h .0 (p .0 refl)))
 one-fault x f (Breaks g) o p = (λ e. (λ k. no-kept (p .1 k), (cc)), λ h. (cc))
 

@@ -6,8 +6,8 @@ use lib.ListN.{length}
 use Rattle.laws.specs.Tests.{same}
 use Rattle.laws.specs.Format.{FirstBroken, judge}
 use Rattle.verdicts.specs.Verdicts.{unless, ruled}
-use Rattle.verdicts.specs.declared.Rule.{Rule}
-use Rattle.verdicts.specs.declared.Rule.the-variants.{Kept, Breaks}
+use Rattle.verdicts.specs.declared.Ruling.{Ruling}
+use Rattle.verdicts.specs.declared.Ruling.the-variants.{Kept, Breaks}
 use Rattle.verdicts.specs.declared.Fault.{Fault}
 use Rattle.verdicts.specs.declared.Fault.the-variants.{BadFascn, BadUuid, BadDate, BadFixed, BadText}
 use Rattle.kinds.specs.declared.ValueRule.{ValueRule}
@@ -59,15 +59,15 @@ Violates Face today v f = FirstBroken (header face (length v)) v f
 
 -- ---- the same as tests
 
-abbrev pub expires : ℕ → TextDate → Rule
+abbrev pub expires : ℕ → TextDate → Ruling
 expires today (Is e) = unless BadDate (inWindow today e)
 expires today Not = Breaks BadDate
 
-abbrev pub dated : TextDate → Rule
+abbrev pub dated : TextDate → Ruling
 dated (Is n) = Kept
 dated Not = Breaks BadDate
 
-abbrev pub tested : ValueRule → ℕ → List ℕ → Rule
+abbrev pub tested : ValueRule → ℕ → List ℕ → Ruling
 tested Free today v = Kept
 tested Fascn today v = unless BadFascn (isFascn v)
 tested Uuid today v = unless BadUuid (isUuid v)
@@ -80,5 +80,5 @@ tested Date today v = dated (dateOf v)
 tested Fingers today v = ruled (judge (header fingers (length v)) 0 v)
 tested Face today v = ruled (judge (header face (length v)) 0 v)
 
-unfoldable pub ruleOf : ValueRule → ℕ → List ℕ → Rule
+unfoldable pub ruleOf : ValueRule → ℕ → List ℕ → Ruling
 ruleOf rule today v = tested rule today v

@@ -7,46 +7,46 @@ use cbeff::fingers;
 use dates::Date;
 use kinds::ValueRule;
 use verdicts::Fault;
-use verdicts::Rule;
+use verdicts::Ruling;
 
 // What a test with one fault answers.
-fn unless(f: Fault, kept: bool) -> Rule
+fn unless(f: Fault, kept: bool) -> Ruling
     ensures { λ r. ⌜ r ≡ unless f kept ⌝ }
 {
     if kept {
-        return Rule::Kept;
+        return Ruling::Kept;
     }
-    Rule::Breaks(f)
+    Ruling::Breaks(f)
 }
 
 // "CHUID expiry e and today t": a date, and in its window.
-fn expiry(today: u64, d: Date) -> Rule
+fn expiry(today: u64, d: Date) -> Ruling
     ensures { λ r. ⌜ r ≡ expires today d ⌝ }
 {
     match d {
         Date::Is(e) => unless(Fault::BadDate, dates::in_window(today, e)),
-        Date::Not => Rule::Breaks(Fault::BadDate),
+        Date::Not => Ruling::Breaks(Fault::BadDate),
     }
 }
 
 // "The printed date only has to be a date."
-fn date(d: Date) -> Rule
+fn date(d: Date) -> Ruling
     ensures { λ r. ⌜ r ≡ dated d ⌝ }
 {
     match d {
-        Date::Is(_) => Rule::Kept,
-        Date::Not => Rule::Breaks(Fault::BadDate),
+        Date::Is(_) => Ruling::Kept,
+        Date::Not => Ruling::Breaks(Fault::BadDate),
     }
 }
 
 // Whether a value keeps the rule under the date today, or which fault it has. The judge of the biometric records stays a
 // call: it gets a part that is made for it, and its answer goes through a local, so that the compiler keeps the value and
 // the answer of every other rule in registers.
-fn judge_value(rule: ValueRule, today: u64, v: &[u8]) -> Rule
+fn judge_value(rule: ValueRule, today: u64, v: &[u8]) -> Ruling
     ensures { λ r. ⌜ r ≡ ruleOf rule today (now (v .entry)) ⌝ }
 {
     match rule {
-        ValueRule::Free => Rule::Kept,
+        ValueRule::Free => Ruling::Kept,
         ValueRule::Fascn => unless(Fault::BadFascn, fascn::is_fascn(v)),
         ValueRule::Uuid => unless(Fault::BadUuid, plain::is_uuid(v)),
         ValueRule::Expiry => expiry(today, dates::date_of(v)),
@@ -70,11 +70,11 @@ fn judge_value(rule: ValueRule, today: u64, v: &[u8]) -> Rule
 }
 
 // The same. Most elements' values are free, and those are told here: this part is small enough to go into its callers.
-pub fn judge(rule: ValueRule, today: u64, v: &[u8]) -> Rule
+pub fn judge(rule: ValueRule, today: u64, v: &[u8]) -> Ruling
     ensures { λ r. ⌜ r ≡ ruleOf rule today (now (v .entry)) ⌝ }
 {
     match rule {
-        ValueRule::Free => Rule::Kept,
+        ValueRule::Free => Ruling::Kept,
         _ => judge_value(rule, today, v),
     }
 }

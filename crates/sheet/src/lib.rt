@@ -10,7 +10,7 @@ ghost use Rattle.container.specs.Container.{Values, Conforms};
 ghost use Rattle.sheet.specs.Sheet.{count, section, sheetOf};
 ghost use Rattle.sheet.specs.Calls.{readOutput};
 use container::Found;
-use kinds::Place;
+use kinds::Slot;
 use verdicts::Done;
 use verdicts::Fault;
 use verdicts::Outcome;
@@ -40,7 +40,7 @@ fn put_sheet(kind: u64, c: &[u8], out: &mut [u8]) -> usize
     let mut size: usize = 0;
     let mut from = container::first_element(c);
     let mut row: u64 = 0;
-    while let Place::Holds(tag, _) = kinds::row_at(kind, row) {
+    while let Slot::Holds(tag, _) = kinds::row_at(kind, row) {
         row += 1;
         match container::found_at(kind, tag, c, from) {
             Found::Absent => {

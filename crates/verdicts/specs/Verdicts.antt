@@ -4,8 +4,8 @@ use Rattle.verdicts.specs.declared.Fault.{Fault}
 use Rattle.verdicts.specs.declared.Fault.the-variants.{UnknownKind, NoDate, SmallRoom, LargeContainer, TornSheet, NoElement, LongNumber, LongReport, OuterTag, LengthForm, Overrun, UnknownTag, TagOrder, MissingRow, ElementLength, BadFascn, BadUuid, BadDate, BadFixed, BadHeader, BadMinutiae, BadText}
 use Rattle.verdicts.specs.declared.Outcome.{Outcome}
 use Rattle.verdicts.specs.declared.Outcome.the-variants.{Fine, Broken}
-use Rattle.verdicts.specs.declared.Rule.{Rule}
-use Rattle.verdicts.specs.declared.Rule.the-variants.{Kept, Breaks}
+use Rattle.verdicts.specs.declared.Ruling.{Ruling}
+use Rattle.verdicts.specs.declared.Ruling.the-variants.{Kept, Breaks}
 use Rattle.verdicts.specs.declared.Verdict.{Verdict}
 use Rattle.laws.specs.Format.{Judged, kept, breaks}
 use mathlib.Core.Bool.{Bool, cond}
@@ -42,10 +42,10 @@ verdictOf (Broken f place) = record { number = numberOf f; place = place }
 -- ---- the answer of a rule
 
 -- of a test with one fault
-abbrev pub unless : Fault → Bool → Rule
+abbrev pub unless : Fault → Bool → Ruling
 unless f test = cond test Kept (Breaks f)
 
 -- of a judge that goes through a table
-abbrev pub ruled : Judged Fault → Rule
+abbrev pub ruled : Judged Fault → Ruling
 ruled kept = Kept
 ruled (breaks f) = Breaks f

@@ -30,7 +30,7 @@ pub enum Fault {
 }
 
 // What a value's rule answers.
-pub enum Rule {
+pub enum Ruling {
     Kept,
     Breaks(Fault),
 }

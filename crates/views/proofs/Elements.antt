@@ -16,7 +16,7 @@ use Rattle.laws.proofs.Cases.{which}
 use Rattle.verdicts.specs.Verdicts.{numberOf}
 use Rattle.verdicts.specs.declared.Fault.the-variants.{NoElement}
 use Rattle.kinds.specs.Tables.{Table, table, first, rowAt}
-use Rattle.kinds.specs.declared.Place.the-variants.{Holds, End}
+use Rattle.kinds.specs.declared.Slot.the-variants.{Holds, End}
 use Rattle.container.specs.Container.{Values, has, encode, Conforms}
 use Rattle.container.specs.Places.{Part, start, begin, past, partOf}
 use Rattle.container.proofs.Rows.{Distinct}

@@ -10,7 +10,7 @@ use lib.Dec.{eqb}
 use borrow.Author.Tests.{eq-eqb, ne-eqb}
 use Rattle.laws.proofs.Cases.{which}
 use Rattle.kinds.specs.Tables.{Entry, Table, table, first, rowAt}
-use Rattle.kinds.specs.declared.Place.the-variants.{Holds, End}
+use Rattle.kinds.specs.declared.Slot.the-variants.{Holds, End}
 use Rattle.container.specs.Container.{Values, Conforms}
 use Rattle.container.specs.Places.{start, past, partOf, foundAt, Inside, firstElement}
 use Rattle.container.specs.declared.Found.{Found}

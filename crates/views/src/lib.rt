@@ -4,7 +4,7 @@ ghost use lib.ListN.{length};
 ghost use Rattle.views.specs.Lies.{sought, Within};
 ghost use Rattle.views.specs.Views.{viewed, Locates, Answers};
 use container::Found;
-use kinds::Place;
+use kinds::Slot;
 use verdicts::Outcome;
 
 // What is found of the tag's row: the rows one after the other, up to that one. In a container that conforms it is where the
@@ -15,7 +15,7 @@ pub fn sought(kind: u64, tag: u64, c: &[u8]) -> Found
 {
     let mut from = container::first_element(c);
     let mut row: u64 = 0;
-    while let Place::Holds(here, _) = kinds::row_at(kind, row) {
+    while let Slot::Holds(here, _) = kinds::row_at(kind, row) {
         let found = container::found_at(kind, here, c, from);
         if here == tag {
             return found;

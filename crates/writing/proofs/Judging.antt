@@ -10,8 +10,8 @@ use Rattle.kinds.specs.declared.Row.{Row}
 use Rattle.kinds.specs.declared.Row.the-variants.{At, Missing}
 use Rattle.rules.specs.Rules.{ruleOf}
 use Rattle.verdicts.specs.declared.Fault.the-variants.{UnknownTag, ElementLength}
-use Rattle.verdicts.specs.declared.Rule.{Rule}
-use Rattle.verdicts.specs.declared.Rule.the-variants.{Breaks}
+use Rattle.verdicts.specs.declared.Ruling.{Ruling}
+use Rattle.verdicts.specs.declared.Ruling.the-variants.{Breaks}
 use Rattle.writing.specs.Sections.{judgedBy}
 
 module _ {row : Row} (today : ℕ) (v : List ℕ) where
@@ -22,5 +22,5 @@ module _ {row : Row} (today : ℕ) (v : List ℕ) where
     pub wrong-size : permits least most empty (length v) ≡ false → Breaks ElementLength ≡ judgedBy row today v
     wrong-size p = rw (← e, p)
 
-    pub by-rule : permits least most empty (length v) ≡ true → {x : Rule} → x ≡ ruleOf rule today v → x ≡ judgedBy row today v
+    pub by-rule : permits least most empty (length v) ≡ true → {x : Ruling} → x ≡ ruleOf rule today v → x ≡ judgedBy row today v
     by-rule p q = rw (← e, p) q

@@ -13,13 +13,13 @@ use lib.ListN.{length, drop, length-append, length-drop, drop-of-length-le}
 use borrow.Author.Tests.{leb-true, eqb-false, ne-eqb, eq-eqb}
 use Rattle.laws.proofs.Cases.{which}
 use Rattle.kinds.specs.Tables.{Entry, Table, table, permitted, find, first, rowOf, rowAt}
-use Rattle.kinds.specs.declared.Place.the-variants.{Holds, End}
+use Rattle.kinds.specs.declared.Slot.the-variants.{Holds, End}
 use Rattle.lengths.specs.Length.{lengthBytes}
 use Rattle.rules.specs.Rules.{ruleOf}
 use Rattle.verdicts.specs.declared.Fault.{Fault}
 use Rattle.verdicts.specs.declared.Fault.the-variants.{MissingRow, ElementLength}
-use Rattle.verdicts.specs.declared.Rule.{Rule}
-use Rattle.verdicts.specs.declared.Rule.the-variants.{Kept, Breaks}
+use Rattle.verdicts.specs.declared.Ruling.{Ruling}
+use Rattle.verdicts.specs.declared.Ruling.the-variants.{Kept, Breaks}
 use Rattle.verdicts.specs.declared.Outcome.{Outcome}
 use Rattle.verdicts.specs.declared.Outcome.the-variants.{Fine, Broken}
 use Rattle.container.specs.Container.{Values, tagBytes, has, encode}
@@ -128,7 +128,7 @@ other-tag u (suc n) (x ∷ rows) h e =
     ]
 
 -- so a value is judged by its row
-abbrev judgedAs : Entry → ℕ → List ℕ → Rule
+abbrev judgedAs : Entry → ℕ → List ℕ → Ruling
 judgedAs r today v = cond (permitted (r .lengths) (length v)) (ruleOf (r .rule) today v) (Breaks ElementLength)
 
 by-row : (today : ℕ) (v : List ℕ) (n : ℕ) (rows : Table) (i from : ℕ) {r : Entry} {rs : Table} → Distinct rows → drop n rows ≡ r ∷ rs → judgedBy (find i from rows (r .tag)) today v ≡ judgedAs r today v

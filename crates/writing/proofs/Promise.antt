@@ -18,8 +18,8 @@ use Rattle.kinds.specs.Tables.{Table, table, permitted, isKind}
 use Rattle.rules.specs.Rules.{ruleOf}
 use Rattle.verdicts.specs.Output.{refusal, text}
 use Rattle.verdicts.specs.declared.Fault.{Fault}
-use Rattle.verdicts.specs.declared.Rule.{Rule}
-use Rattle.verdicts.specs.declared.Rule.the-variants.{Kept, Breaks}
+use Rattle.verdicts.specs.declared.Ruling.{Ruling}
+use Rattle.verdicts.specs.declared.Ruling.the-variants.{Kept, Breaks}
 use Rattle.verdicts.specs.declared.Outcome.{Outcome}
 use Rattle.verdicts.specs.declared.Outcome.the-variants.{Fine, Broken}
 use Rattle.container.specs.Container.{Values, container, Allowed, largest, Conforms}
@@ -37,7 +37,7 @@ use Rattle.writing.proofs.Sheets.{opened-exact, AllBytes, sheet-values,
 no-fine : {f : Fault} {p : ℕ} → Broken f p ≡ Fine → ⊥
 no-fine e = let z : _≡_ {A = ℕ} 0 1 = cc in omega arith
 
-kept-fine : (x : Rule) (at : ℕ) (later : Outcome) → keptOr x at later ≡ Fine → (x ≡ Kept) × (later ≡ Fine)
+kept-fine : (x : Ruling) (at : ℕ) (later : Outcome) → keptOr x at later ≡ Fine → (x ≡ Kept) × (later ≡ Fine)
 kept-fine Kept at later e = (refl, e)
 kept-fine (Breaks f) at later e = absurd (no-fine e)
 

@@ -12,7 +12,7 @@ use lib.Seq.{drop-drop, length-take-le}
 use borrow.Author.Tests.{ltb-false, eqb-false}
 use Rattle.laws.proofs.Cases.{which}
 use Rattle.kinds.specs.Tables.{Entry, Table, table, first, rowAt}
-use Rattle.kinds.specs.declared.Place.the-variants.{End}
+use Rattle.kinds.specs.declared.Slot.the-variants.{End}
 use Rattle.writing.specs.Writing.{ahead, opened}
 use Rattle.writing.specs.Sections.{here, sectionAt, held}
 use Rattle.writing.specs.declared.Section.the-variants.{Torn, Absent, Value}

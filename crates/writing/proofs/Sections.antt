@@ -8,12 +8,12 @@ use native.Mathlib.Omega.{arith}
 use lib.ListN.{length, getD, drop, length-drop}
 use borrow.Author.Tests.{lt-ltb, le-ltb, eq-eqb, ne-eqb}
 use Rattle.laws.proofs.Turns.{from-one}
-use Rattle.kinds.specs.declared.Place.{Place}
-use Rattle.kinds.specs.declared.Place.the-variants.{Holds, End}
+use Rattle.kinds.specs.declared.Slot.{Slot}
+use Rattle.kinds.specs.declared.Slot.the-variants.{Holds, End}
 use Rattle.writing.specs.Sections.{here, sectionAt}
 use Rattle.writing.specs.declared.Section.the-variants.{Torn, Absent, Value}
 
-module _ {p : Place} (s : List ℕ) (at : ℕ) where
+module _ {p : Slot} (s : List ℕ) (at : ℕ) where
   pub no-row : End ≡ p → Torn ≡ sectionAt p at (drop at s)
   unfolding sectionAt
   no-row e = rw (← e)

@@ -6,15 +6,15 @@ use mathlib.Core.List.{List, [], _∷_, _++_}
 use lib.Dec.{ltb, eqb}
 use lib.ListN.{length, take, drop}
 use Rattle.kinds.specs.Tables.{Table, permits}
-use Rattle.kinds.specs.declared.Place.{Place}
-use Rattle.kinds.specs.declared.Place.the-variants.{Holds, End}
+use Rattle.kinds.specs.declared.Slot.{Slot}
+use Rattle.kinds.specs.declared.Slot.the-variants.{Holds, End}
 use Rattle.kinds.specs.declared.Row.{Row}
 use Rattle.kinds.specs.declared.Row.the-variants.{At, Missing}
 use Rattle.lengths.specs.Length.{lengthBytes}
 use Rattle.rules.specs.Rules.{ruleOf}
 use Rattle.verdicts.specs.declared.Fault.the-variants.{UnknownTag, ElementLength}
-use Rattle.verdicts.specs.declared.Rule.{Rule}
-use Rattle.verdicts.specs.declared.Rule.the-variants.{Breaks}
+use Rattle.verdicts.specs.declared.Ruling.{Ruling}
+use Rattle.verdicts.specs.declared.Ruling.the-variants.{Breaks}
 use Rattle.container.specs.Container.{Values, tagBytes, encode}
 use Rattle.writing.specs.declared.Section.{Section}
 use Rattle.writing.specs.declared.Section.the-variants.{Torn, Absent, Value}
@@ -26,13 +26,13 @@ use Rattle.writing.specs.declared.Body.the-variants.{Cut, Takes}
 abbrev pub counted : ℕ → Bool → ℕ → ℕ → List ℕ → Section
 counted tag optional at n s = cond (eqb n 0) (Absent optional) (cond (ltb (length s) (n - 1)) Torn (Value tag (at + 1 + n)))
 
-abbrev pub here : Place → ℕ → List ℕ → Section
+abbrev pub here : Slot → ℕ → List ℕ → Section
 here End at s = Torn
 here (Holds tag optional) at [] = Torn
 here (Holds tag optional) at (a ∷ []) = Torn
 here (Holds tag optional) at (a ∷ b ∷ s) = counted tag optional at (a * 256 + b) s
 
-unfoldable pub sectionAt : Place → ℕ → List ℕ → Section
+unfoldable pub sectionAt : Slot → ℕ → List ℕ → Section
 sectionAt place at s = here place at s
 
 -- a section lies within the sheet, and a value has at most 65,534 bytes
@@ -68,6 +68,6 @@ Small (Takes n) = n ≤ 15 * 65539
 
 -- ---- a value judged by what the table says of its tag: 16, then its rule
 
-abbrev pub judgedBy : Row → ℕ → List ℕ → Rule
+abbrev pub judgedBy : Row → ℕ → List ℕ → Ruling
 judgedBy Missing today v = Breaks UnknownTag
 judgedBy (At i from least most empty rule) today v = cond (permits least most empty (length v)) (ruleOf rule today v) (Breaks ElementLength)

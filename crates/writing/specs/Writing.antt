@@ -10,8 +10,8 @@ use Rattle.dates.specs.Date.{isDate}
 use Rattle.rules.specs.Rules.{ruleOf}
 use Rattle.verdicts.specs.Output.{Output, refusal}
 use Rattle.verdicts.specs.declared.Fault.the-variants.{UnknownKind, NoDate, LargeContainer, TornSheet, MissingRow, ElementLength}
-use Rattle.verdicts.specs.declared.Rule.{Rule}
-use Rattle.verdicts.specs.declared.Rule.the-variants.{Kept, Breaks}
+use Rattle.verdicts.specs.declared.Ruling.{Ruling}
+use Rattle.verdicts.specs.declared.Ruling.the-variants.{Kept, Breaks}
 use Rattle.verdicts.specs.declared.Outcome.{Outcome}
 use Rattle.verdicts.specs.declared.Outcome.the-variants.{Fine, Broken}
 use Rattle.container.specs.Container.{Values, container, largest}
@@ -35,7 +35,7 @@ opened (r ∷ rs) (a ∷ b ∷ s) =
 
 -- ---- the values judged, row by row, with the place of the row's count
 
-abbrev pub keptOr : Rule → ℕ → Outcome → Outcome
+abbrev pub keptOr : Ruling → ℕ → Outcome → Outcome
 keptOr Kept at later = later
 keptOr (Breaks f) at later = Broken f at
 

@@ -13,12 +13,12 @@ ghost use Rattle.writing.specs.Plans.{Planned};
 ghost use Rattle.writing.specs.Sections.{sectionAt, Inside, held, bodyOf, Small, elementBytes, judgedBy};
 use container::outer_tag;
 use container::permitted;
-use kinds::Place;
+use kinds::Slot;
 use kinds::Row;
 use verdicts::Done;
 use verdicts::Fault;
 use verdicts::Outcome;
-use verdicts::Rule;
+use verdicts::Ruling;
 
 // What stands where the section of a row is due.
 enum Section {
@@ -60,8 +60,8 @@ fn section_at(kind: u64, row: u64, s: &[u8], at: usize) -> Section
     ensures { λ r. ⌜ Inside r at (length (now (s .entry))) ⌝ }
 {
     match kinds::row_at(kind, row) {
-        Place::End => Section::Torn,
-        Place::Holds(tag, optional) => {
+        Slot::End => Section::Torn,
+        Slot::Holds(tag, optional) => {
             let left = s.len() - at;
             if left < 2 {
                 return Section::Torn;
@@ -111,20 +111,20 @@ fn body_length(kind: u64, s: &[u8]) -> Body
         }
     }
     match kinds::row_at(kind, row) {
-        Place::End => Body::Takes(size),
-        Place::Holds(_, _) => Body::Cut,
+        Slot::End => Body::Takes(size),
+        Slot::Holds(_, _) => Body::Cut,
     }
 }
 
 // A value, by its tag's row: 16, then its rules. A tag that the table gave is in it.
-fn judge_value(kind: u64, today: u64, tag: u64, v: &[u8]) -> Rule
+fn judge_value(kind: u64, today: u64, tag: u64, v: &[u8]) -> Ruling
     ensures { λ r. ⌜ r ≡ judgedBy (rowOf kind tag) today (now (v .entry)) ⌝ }
 {
     match kinds::row_of(kind, tag) {
-        Row::Missing => Rule::Breaks(Fault::UnknownTag),
+        Row::Missing => Ruling::Breaks(Fault::UnknownTag),
         Row::At(_, _, least, most, empty, rule) => {
             if !permitted(v.len(), least, most, empty) {
-                return Rule::Breaks(Fault::ElementLength);
+                return Ruling::Breaks(Fault::ElementLength);
             }
             rules::judge(rule, today, v)
         }
@@ -154,10 +154,10 @@ fn judge_rows(kind: u64, today: u64, s: &[u8]) -> Outcome
             Section::Value(tag, to) => {
                 let from = at + 2;
                 match judge_value(kind, today, tag, &s[from..to]) {
-                    Rule::Breaks(f) => {
+                    Ruling::Breaks(f) => {
                         return Outcome::Broken(f, at);
                     }
-                    Rule::Kept => {
+                    Ruling::Kept => {
                         at = to;
                     }
                 }

@@ -4,7 +4,7 @@ use mathlib.Core.Path.{_≡_, refl, sym, ap, _∙_}
 use native.Mathlib.Omega.{arith}
 use borrow.Author.Needs.{needs}
 use Rattle.kinds.specs.Tables.{rowAt}
-use Rattle.kinds.specs.declared.Place.the-variants.{Holds}
+use Rattle.kinds.specs.declared.Slot.the-variants.{Holds}
 use Rattle.container.specs.Container.{Values}
 use Rattle.container.proofs.Walk.{row-few}
 use Rattle.container.proofs.Passing.{Passed, none-passed, all-passed, absent-passed, value-passed}

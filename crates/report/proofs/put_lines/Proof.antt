@@ -5,7 +5,7 @@ use native.Mathlib.Omega.{arith}
 use lib.ListN.{length}
 use borrow.Author.Needs.{needs}
 use Rattle.kinds.specs.Tables.{rowAt}
-use Rattle.kinds.specs.declared.Place.the-variants.{Holds}
+use Rattle.kinds.specs.declared.Slot.the-variants.{Holds}
 use Rattle.container.specs.Places.{Inside}
 use Rattle.container.specs.declared.Found.the-variants.{At}
 use Rattle.container.proofs.Walk.{row-few}

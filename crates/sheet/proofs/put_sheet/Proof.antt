@@ -10,7 +10,7 @@ use borrow.Author.Needs.{needs}
 use Rattle.laws.specs.Room.{Put}
 use Rattle.laws.proofs.Rooms.{nothing, then}
 use Rattle.kinds.specs.Tables.{rowAt}
-use Rattle.kinds.specs.declared.Place.the-variants.{Holds}
+use Rattle.kinds.specs.declared.Slot.the-variants.{Holds}
 use Rattle.container.specs.Container.{Values}
 use Rattle.container.specs.Places.{Inside}
 use Rattle.container.specs.declared.Found.the-variants.{At}

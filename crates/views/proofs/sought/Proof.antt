@@ -5,7 +5,7 @@ use native.Mathlib.Omega.{arith}
 use lib.ListN.{length, drop}
 use borrow.Author.Needs.{needs}
 use Rattle.kinds.specs.Tables.{table, rowAt}
-use Rattle.kinds.specs.declared.Place.the-variants.{Holds}
+use Rattle.kinds.specs.declared.Slot.the-variants.{Holds}
 use Rattle.container.specs.declared.Found.the-variants.{At, Absent}
 use Rattle.container.proofs.Walk.{row-few}
 use Rattle.views.specs.Lies.{seek, sought}

@@ -5,7 +5,7 @@ use native.Mathlib.Omega.{arith}
 use lib.ListN.{length}
 use borrow.Author.Needs.{needs}
 use Rattle.kinds.specs.Tables.{rowAt}
-use Rattle.kinds.specs.declared.Place.the-variants.{Holds}
+use Rattle.kinds.specs.declared.Slot.the-variants.{Holds}
 use Rattle.writing.proofs.Sections.{no-row, no-count, absent, cut-short, value}
 use Rattle.writing.proofs.section_at.Statement.{statement}
 use Rattle.writing.proofs.section_at.Tie as tie
