@@ -5,11 +5,8 @@ use mathlib.Core.Bool.{Bool}
 use mathlib.Core.Option.{none, some}
 use mathlib.Core.List.{List, [], _∷_, _++_}
 use native.Mathlib.Omega.{arith}
-use native.Mathlib.Decide.{decLt}
-use lib.Dec.{leb}
-use borrow.Author.Tests.{leb-true}
 use native.Mathlib.Nat.{add-sub-cancel-left}
-use lib.ListN.{length, take, drop, length-append, length-drop, drop-of-length-le}
+use lib.ListN.{length, take, drop, length-append, length-drop}
 use lib.Seq.{drop-drop, drop-append-seam, take-append-seam}
 use Rattle.lengths.specs.Length.{lengthBytes, readLength}
 use Rattle.lengths.proofs.Spellings.{reads-back}
@@ -19,7 +16,7 @@ use Rattle.container.specs.Container.{Values, tagBytes, long, encode, Al
 use Rattle.container.specs.Places.{start, begin, past, foundAt, firstElement}
 use Rattle.container.specs.declared.Found.the-variants.{At, Absent}
 use Rattle.container.proofs.Rows.{Distinct}
-use Rattle.container.proofs.Tags.{Tags, tags, distinct, of-each}
+use Rattle.container.proofs.Tags.{Tags, tags, distinct}
 use Rattle.container.proofs.Places.{found-some, found-none}
 
 -- these rows are to come, with these values: they are written as the bytes from the offset on
@@ -104,23 +101,6 @@ module _ (kind today : ℕ) where
           small = omega (arith, k, l, m);
         },
       )
-
--- ---- a loop over the rows ends: no table has more than fifteen
-
-rows-few : (kind : ℕ) → length (table kind) ≤ 15
-rows-few kind = leb-true _ _ (of-each (λ rs. leb (length rs) 15) refl refl refl refl refl refl refl refl kind)
-
--- a row that is there is one of the first fifteen
-pub row-few : (kind n : ℕ) {tag : ℕ} {optional : Bool} → rowAt kind n ≡ Holds tag optional → n < 15
-row-few kind n {tag} {optional} e =
-    elim (decLt n 15) [
-      | yes h ↦ h
-      | no h ↦
-          let g : length (table kind) ≤ n = omega (arith, rows-few kind) in
-          let p : Holds tag optional ≡ End = sym e ∙ ap first (drop-of-length-le (table kind) g) in
-          let z : _≡_ {A = ℕ} 0 1 = cc in
-          absurd (omega arith)
-    ]
 
 -- ---- by the row's number, as loops go: n rows are behind
 
