@@ -10,5 +10,4 @@ pub mod Ways
 pub mod Faults
 pub mod InOrder
 pub mod Named
-pub mod TempRow
 pub mod Lying

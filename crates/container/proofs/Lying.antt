@@ -29,7 +29,7 @@ use Rattle.container.proofs.Tags.{tag-is}
 use Rattle.container.proofs.Noting.{none-noted}
 use Rattle.container.proofs.Exact.{no-values}
 use Rattle.container.proofs.Promise.{in-outer-values, located-conforms}
-use Rattle.container.proofs.TempRow.{few-rows}
+use Rattle.kinds.proofs.Every.{few-rows}
 
 -- ---- each part stands in the bytes
 

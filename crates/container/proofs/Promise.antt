@@ -35,7 +35,7 @@ use Rattle.verdicts.specs.declared.Fault.the-variants.{LargeContainer}
 
 pub kind-exact : (kind : ℕ) → (isKind kind ≡ true) ↔ IsKind kind
 kind-exact kind = (
-  λ e. let c = and-true (leb 1 kind) (leb kind 7) e in (leb-true _ _ (c .0), leb-true _ _ (c .1)),
+  λ e. let c = and-true (leb 1 kind) _ e in (leb-true _ _ (c .0), leb-true _ _ (c .1)),
   λ k. and-is _ _ (le-leb _ _ (k .0)) (le-leb _ _ (k .1)),
 )
 

@@ -7,27 +7,13 @@ use mathlib.Core.List.{List, [], _∷_, _++_}
 use lib.ListN.{length, getD, drop, drop-of-length-le}
 use lib.Dec.{ltb, eqb}
 use borrow.Author.Tests.{lt-ltb, ne-eqb, eqb-true, eqb-false, ltb-true, not-true}
-use Rattle.laws.proofs.Cases.{which, and-true, either}
+use Rattle.laws.specs.Tests.{allBelow}
+use Rattle.laws.proofs.Cases.{which, and-true, either, or-right}
 use Rattle.laws.proofs.Turns.{from-one}
-use Rattle.kinds.specs.Tables.{Table, table, ccc, chuid, discovery, printed, security, fingers, face}
+use Rattle.kinds.specs.Tables.{Table, table}
+use Rattle.kinds.proofs.Every.{of-every, of-every-kind}
 use Rattle.container.specs.Container.{tagBytes, long, has, tagHere}
 use Rattle.container.proofs.Rows.{Distinct}
-
--- ---- a computed test of each table is a test of the table of any kind
-
-choose : (test : Table → Bool) (b : Bool) (x y : Table) → test x ≡ true → test y ≡ true → test (cond b x y) ≡ true
-choose test true x y p q = p
-choose test false x y p q = q
-
-pub of-each : (test : Table → Bool) → test ccc ≡ true → test chuid ≡ true → test discovery ≡ true → test printed ≡ true → test security ≡ true → test fingers ≡ true → test face ≡ true → test [] ≡ true → (kind : ℕ) → test (table kind) ≡ true
-of-each test p₁ p₂ p₃ p₄ p₅ p₆ p₇ p₀ kind =
-    choose test (eqb kind 1) ccc _ p₁
-    (choose test (eqb kind 2) chuid _ p₂
-    (choose test (eqb kind 3) discovery _ p₃
-    (choose test (eqb kind 4) printed _ p₄
-    (choose test (eqb kind 5) security _ p₅
-    (choose test (eqb kind 6) fingers _ p₆
-    (choose test (eqb kind 7) face [] p₇ p₀))))))
 
 -- no table has a tag twice
 abbrev apart : Table → Bool
@@ -43,7 +29,8 @@ apart-distinct (r ∷ rs) p =
     ]
 
 pub distinct : (kind : ℕ) → Distinct (table kind)
-distinct kind = apart-distinct (table kind) (of-each apart refl refl refl refl refl refl refl refl kind)
+unfolding allBelow
+distinct kind = apart-distinct (table kind) (of-every apart refl kind)
 
 -- ---- a tag that a table may have: one byte but 5F, or 5F2F
 
@@ -76,7 +63,8 @@ plain-tags all (r ∷ rs) p =
     (plain-tag all (r .tag) (q .0), plain-tags all rs (q .1))
 
 pub tags : (kind : ℕ) → Tags (table kind) (table kind)
-tags kind = plain-tags (table kind) (table kind) (of-each (λ rs. plain rs rs) refl refl refl refl refl refl refl refl kind)
+unfolding allBelow
+tags kind = plain-tags (table kind) (table kind) (of-every (λ rs. plain rs rs) refl kind)
 
 -- ---- bytes that begin a tag
 
@@ -117,20 +105,12 @@ begins all u s (double e h) = record { first = 0x5F; then = 0x2F ∷ s; bytes = 
 
 -- ---- the tag at an offset, by the tests that the code makes
 
-neither : (b : Bool) (x y : Table) → has 0x5F2F x ≡ false → has 0x5F2F y ≡ false → has 0x5F2F (cond b x y) ≡ false
-neither true x y p q = p
-neither false x y p q = q
-
 -- one table alone has the long tag
 no-long : (kind : ℕ) → (kind ≡ 3 → ⊥) → has 0x5F2F (table kind) ≡ false
+unfolding allBelow
 no-long kind h =
-    rw (ne-eqb kind 3 h)
-    (neither (eqb kind 1) ccc _ refl
-    (neither (eqb kind 2) chuid _ refl
-    (neither (eqb kind 4) printed _ refl
-    (neither (eqb kind 5) security _ refl
-    (neither (eqb kind 6) fingers _ refl
-    (neither (eqb kind 7) face [] refl refl))))))
+    let t = of-every-kind (λ k rs. eqb k 3 || not (has 0x5F2F rs)) refl (λ k. or-right (eqb k 3) true refl) kind in
+    not-true _ (rw (ne-eqb kind 3 h) at t)
 
 module _ (kind : ℕ) (c : List ℕ) (at : ℕ) {one : ℕ} (e : one ≡ getD c at 0) where
   pub other-kind : (kind ≡ 3 → ⊥) → one ≡ tagHere (table kind) (getD c at 0) (drop (at + 1) c)

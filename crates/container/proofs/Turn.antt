@@ -14,7 +14,7 @@ use Rattle.lengths.proofs.Writing.{some-bytes}
 use Rattle.kinds.specs.Tables.{table, rowOf, lastRow}
 use Rattle.kinds.specs.declared.ValueRule.{ValueRule}
 use Rattle.kinds.specs.declared.Row.the-variants.{At, Missing}
-use Rattle.container.proofs.TempRow.{row-number}
+use Rattle.kinds.proofs.Every.{row-number}
 use Rattle.verdicts.specs.Verdicts.{found}
 use Rattle.verdicts.specs.declared.Fault.{Fault}
 use Rattle.verdicts.specs.declared.Fault.the-variants.{UnknownTag, TagOrder, MissingRow}

@@ -4,9 +4,9 @@ use mathlib.Core.Path.{_≡_, refl, sym, ap, ap₂}
 use mathlib.Core.Bool.{cond}
 use mathlib.Core.List.{List, [], _∷_}
 use native.Mathlib.Omega.{arith}
-use lib.ListN.{length, drop, drop-of-length-le}
+use lib.ListN.{length, getD, drop, drop-of-length-le, List·getD-eq-default}
 use borrow.Author.Tests.{ne-eqb}
-use Rattle.kinds.specs.Tables.{Table, table, find, rowOf, first, rowAt, lastOf, lastRow}
+use Rattle.kinds.specs.Tables.{Table, tables, table, find, rowOf, first, rowAt, lastOf, lastRow}
 use Rattle.kinds.specs.declared.Row.the-variants.{Missing}
 use Rattle.kinds.specs.declared.Slot.the-variants.{End}
 
@@ -14,6 +14,24 @@ use Rattle.kinds.specs.declared.Slot.the-variants.{End}
 abbrev pub Others : List ℕ → ℕ → Type 0 → Type 0
 Others [] n A = A
 Others (k ∷ ks) n A = Others ks n (A × (n ≡ k → ⊥))
+
+-- the numbers of what is in a list, from i on
+abbrev pub numbered : {A : Type 0} → ℕ → List A → List ℕ
+numbered i [] = []
+numbered i (x ∷ xs) = i ∷ numbered (suc i) xs
+
+past : {A : Type 0} (l : List A) (i n : ℕ) (B : Type 0) → (B → i ≤ n) → Others (numbered i l) n B → i + length l ≤ n
+past [] i n B f h = let g = f h in omega arith
+past (x ∷ l) i n B f h =
+    let g = past l (suc i) n (B × (n ≡ i → ⊥)) (λ b. let m = f (b .0) in let k = b .1 in omega arith) h in
+    omega arith
+
+-- the kinds are numbered from 1: a number that is none of a list's has what stands for none
+pub none-listed : {A : Type 0} (l : List A) (d : A) (n : ℕ) → Others (numbered 1 l) n Unit → d ≡ getD (d ∷ l) n d
+none-listed l d zero h = refl
+none-listed l d (suc n) h =
+    let g = past l 1 (suc n) Unit (λ u. omega arith) h in
+    sym (List·getD-eq-default l d {n = n} (omega arith))
 
 -- the same over a table's tags
 abbrev pub Rest : Table → ℕ → Type 0 → Type 0
@@ -38,31 +56,16 @@ none-of (r ∷ rs) t A i from h =
 pub default : (k kind tag : ℕ) → kind ≡ k → Rest (table k) tag Unit → Missing ≡ rowOf kind tag
 default k kind tag p h = rw p (none-of (table k) tag Unit 0 0 h)
 
-no-table : (kind : ℕ) → Others (1 ∷ 2 ∷ 3 ∷ 4 ∷ 5 ∷ 6 ∷ 7 ∷ []) kind Unit → [] ≡ table kind
-no-table kind h =
-    simp (ne-eqb _ _ (h .1), ne-eqb _ _ (h .0 .1), ne-eqb _ _ (h .0 .0 .1), ne-eqb _ _ (h .0 .0 .0 .1), ne-eqb _ _ (h .0 .0 .0 .0 .1), ne-eqb _ _ (h .0 .0 .0 .0 .0 .1), ne-eqb _ _ (h .0 .0 .0 .0 .0 .0 .1))
+pub no-kind : (kind tag : ℕ) → Others (numbered 1 tables) kind Unit → Missing ≡ rowOf kind tag
+no-kind kind tag h = ap (λ (rows : Table). find 0 0 rows tag) (none-listed tables [] kind h)
 
-pub no-kind : (kind tag : ℕ) → Others (1 ∷ 2 ∷ 3 ∷ 4 ∷ 5 ∷ 6 ∷ 7 ∷ []) kind Unit → Missing ≡ rowOf kind tag
-no-kind kind tag h = ap (λ (rows : Table). find 0 0 rows tag) (no-table kind h)
-
-pub no-last : (kind : ℕ) → Others (1 ∷ 2 ∷ 3 ∷ 4 ∷ 5 ∷ 6 ∷ 7 ∷ []) kind Unit → 0 ≡ lastRow kind
-no-last kind h = ap (lastOf 0 0) (no-table kind h)
+pub no-last : (kind : ℕ) → Others (numbered 1 tables) kind Unit → 0 ≡ lastRow kind
+no-last kind h = ap (lastOf 0 0) (none-listed tables [] kind h)
 
 -- ---- by the row's number
 
 pub at-arm : {k i kind index : ℕ} → kind ≡ k → index ≡ i → rowAt k i ≡ rowAt kind index
 at-arm p q = ap₂ rowAt (sym p) (sym q)
-
--- the numbers of some rows, from i on
-abbrev pub numbered : ℕ → Table → List ℕ
-numbered i [] = []
-numbered i (r ∷ rs) = i ∷ numbered (suc i) rs
-
-past : (rs : Table) (i n : ℕ) (A : Type 0) → (A → i ≤ n) → Others (numbered i rs) n A → i + length rs ≤ n
-past [] i n A f h = let l = f h in omega arith
-past (r ∷ rs) i n A f h =
-    let l = past rs (suc i) n (A × (n ≡ i → ⊥)) (λ a. let g = f (a .0) in let k = a .1 in omega arith) h in
-    omega arith
 
 pub at-default : (k kind index : ℕ) → kind ≡ k → Others (numbered 0 (table k)) index Unit → End ≡ rowAt kind index
 at-default k kind index p h =
@@ -73,5 +76,5 @@ none-left : (index : ℕ) → End ≡ first (drop index [])
 none-left zero = refl
 none-left (suc n) = refl
 
-pub at-no-kind : (kind index : ℕ) → Others (1 ∷ 2 ∷ 3 ∷ 4 ∷ 5 ∷ 6 ∷ 7 ∷ []) kind Unit → End ≡ rowAt kind index
-at-no-kind kind index h = rw (← no-table kind h) (none-left index)
+pub at-no-kind : (kind index : ℕ) → Others (numbered 1 tables) kind Unit → End ≡ rowAt kind index
+at-no-kind kind index h = rw (← none-listed tables [] kind h) (none-left index)

@@ -5,7 +5,7 @@ use mathlib.Core.Logic.{_⊎_}
 use mathlib.Core.Bool.{Bool, true, false, cond, _&&_, _||_}
 use mathlib.Core.List.{List, [], _∷_}
 use lib.Dec.{leb, eqb}
-use lib.ListN.{drop}
+use lib.ListN.{drop, getD}
 use Rattle.kinds.specs.declared.ValueRule.{ValueRule}
 use Rattle.kinds.specs.declared.ValueRule.the-variants.{Free, Fascn, Uuid, Expiry, Model, Application, Policy, Text, Date, Fingers, Face}
 use Rattle.kinds.specs.declared.Row.{Row}
@@ -139,16 +139,13 @@ face =
     ∷ must 0xFE (exactly 0) Free
     ∷ []
 
--- "1 CCC, 2 CHUID, 3 DISCOVERY, 4 PRINTED, 5 SECURITY, 6 FINGERS, 7 FACE"; a number that is no kind has no rows
+-- "1 CCC, 2 CHUID, 3 DISCOVERY, 4 PRINTED, 5 SECURITY, 6 FINGERS, 7 FACE"
+abbrev pub tables : List Table
+tables = ccc ∷ chuid ∷ discovery ∷ printed ∷ security ∷ fingers ∷ face ∷ []
+
+-- a number that is no kind has no rows
 abbrev pub table : ℕ → Table
-table kind =
-    cond (eqb kind 1) ccc
-    (cond (eqb kind 2) chuid
-    (cond (eqb kind 3) discovery
-    (cond (eqb kind 4) printed
-    (cond (eqb kind 5) security
-    (cond (eqb kind 6) fingers
-    (cond (eqb kind 7) face []))))))
+table kind = getD ([] ∷ tables) kind []
 
 abbrev pub IsKind : ℕ → Type 0
 IsKind kind = (1 ≤ kind) × (kind ≤ 7)

@@ -7,9 +7,9 @@ use mathlib.Core.Option.{none, some}
 use mathlib.Core.List.{List, [], _∷_, _++_}
 use native.Mathlib.Nat.{not-suc-le-zero, le-of-suc-le-suc}
 use native.Mathlib.Omega.{arith}
-use native.Mathlib.Decide.{ℕ-discrete}
+use native.Mathlib.Decide.{ℕ-discrete, decLt}
 use lib.Dec.{leb, eqb}
-use lib.ListN.{length, getD}
+use lib.ListN.{length, getD, List·getD-eq-default}
 use borrow.Author.Tests.{eqb-true, eq-eqb, leb-true, le-leb}
 use Rattle.laws.specs.Tests.{onward, all, allBelow, each, same}
 
@@ -94,6 +94,15 @@ at-each f (suc n) t k h =
     elim (ℕ-discrete k n) [
       | yes e ↦ rw e (and-true (f n) (allBelow f n) t .0)
       | no e ↦ at-each f n (and-true (f n) (allBelow f n) t .1) k (omega arith)
+    ]
+
+-- along a list: a number past its end has what stands for none
+pub along : {A : Type 0} (l : List A) (d : A) (f : ℕ → A → Bool) → allBelow (λ k. f k (getD l k d)) (length l) ≡ true → ((k : ℕ) → f k d ≡ true)
+    → (k : ℕ) → f k (getD l k d) ≡ true
+along l d f t g k =
+    elim (decLt k (length l)) [
+      | yes h ↦ at-each (λ (k : ℕ). f k (getD l k d)) (length l) t k h
+      | no h ↦ rw (List·getD-eq-default l d {n = k} (omega arith)) (g k)
     ]
 
 -- two functions that a computed test compares agree at each case

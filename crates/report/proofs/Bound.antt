@@ -10,6 +10,7 @@ use lib.Dec.{leb, eqb}
 use lib.ListN.{length, drop, length-append, length-drop}
 use borrow.Author.Tests.{eqb-true, leb-true}
 use Rattle.laws.specs.Bytes.{Bytes}
+use Rattle.laws.specs.Tests.{allBelow}
 use Rattle.laws.proofs.Bases.{below-drop}
 use Rattle.laws.proofs.Cases.{test, which, and-true}
 use Rattle.lengths.specs.Length.{Spelt, lengthBytes, readLength}
@@ -17,6 +18,7 @@ use Rattle.lengths.proofs.Spellings.{inside}
 use Rattle.texts.specs.Text.{ascii}
 use Rattle.texts.proofs.Bounds.{decimal-length, fixed-length, hex-length, tag-most}
 use Rattle.kinds.specs.Tables.{Entry, Table, table, printed, Permitted}
+use Rattle.kinds.proofs.Every.{of-every, few-rows}
 use Rattle.verdicts.specs.Verdicts.{numberOf}
 use Rattle.verdicts.specs.declared.Fault.{Fault}
 use Rattle.verdicts.specs.declared.Fault.the-variants.{MissingRow}
@@ -24,7 +26,7 @@ use Rattle.verdicts.proofs.Apart.{number-small}
 use Rattle.container.specs.Container.{Values, tagBytes, long, tagHere, outerTag, Fits, Allowed}
 use Rattle.container.specs.Reading.{Parsed, values, fault, prepend, Element, whole, broken, element, follow, parse, inner, outer}
 use Rattle.container.proofs.One.{element-is, good-fits}
-use Rattle.container.proofs.Tags.{of-each, tag-is}
+use Rattle.container.proofs.Tags.{tag-is}
 use Rattle.container.proofs.Exact.{bytes-front, bytes-back}
 use Rattle.report.specs.Open.{Open, nothing, model, holder, card, policy, issuer, openOf}
 use Rattle.report.specs.Report.{kindName, cardPart, elementLines, elementCount, openPart, reportText}
@@ -128,16 +130,14 @@ card-length kind size today verdict place h g k =
       decimal-length 5 place (omega arith) k,
     ))
 
--- no table has more than 15 rows, and no row takes a value of more than 65,535 bytes
+-- no row takes a value of more than 65,535 bytes
 abbrev small : Table → Bool
 small [] = true
 small (r ∷ rs) = leb (r .lengths .most) 65535 && small rs
 
-few : (kind : ℕ) → length (table kind) ≤ 15
-few kind = leb-true _ _ (of-each (λ rs. leb (length rs) 15) refl refl refl refl refl refl refl refl kind)
-
 smalls : (kind : ℕ) → small (table kind) ≡ true
-smalls kind = of-each small refl refl refl refl refl refl refl refl kind
+unfolding allBelow
+smalls kind = of-every small refl kind
 
 value-small : (today : ℕ) (r : Entry) (v : List ℕ) → r .lengths .most ≤ 65535 → Fits today r v → length v < 10 ^ 5
 value-small today r v h f = go (f .long)
@@ -209,8 +209,8 @@ text-length kind today size (values vs) h a =
     (omega (
       arith,
       card-length kind size today 0 0 (omega arith) (omega arith) (omega arith),
-      few kind,
-      decimal-length 2 (elementCount vs) (omega arith) (omega (arith, few kind, count-most today (table kind) vs a)),
+      few-rows kind,
+      decimal-length 2 (elementCount vs) (omega arith) (omega (arith, few-rows kind, count-most today (table kind) vs a)),
       lines-length today (table kind) vs (smalls kind) a,
       open-length (openOf kind vs) (open-short kind today vs a),
     ))

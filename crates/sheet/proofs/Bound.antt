@@ -1,7 +1,7 @@
 -- A sheet has at most six bytes more than its container: a room of 32,774 bytes takes every sheet. Assumes nothing.
 use Prim.Native.Nat.{ℕ, _+_, _*_, _≤_}
-use mathlib.Core.Path.{_≡_, refl, ap}
-use mathlib.Core.Bool.{true, cond}
+use mathlib.Core.Path.{refl, ap}
+use mathlib.Core.Bool.{cond}
 use mathlib.Core.Logic.{inl, inr}
 use mathlib.Core.Option.{none, some}
 use mathlib.Core.List.{List, [], _∷_, _++_}
@@ -10,9 +10,10 @@ use lib.Dec.{leb, ltb}
 use lib.ListN.{length, length-append}
 use borrow.Author.Tests.{leb-true}
 use Rattle.laws.specs.Tests.{allBelow}
-use Rattle.laws.proofs.Cases.{which, at-each}
+use Rattle.laws.proofs.Cases.{which}
 use Rattle.lengths.specs.Length.{lengthBytes}
 use Rattle.kinds.specs.Tables.{Table, table}
+use Rattle.kinds.proofs.Every.{of-every}
 use Rattle.container.specs.Container.{Values, tagBytes, encode, Allowed, Conforms}
 use Rattle.sheet.specs.Sheet.{sheetOf}
 use Rattle.sheet.proofs.Sheets.{sheet-length}
@@ -23,12 +24,9 @@ optionals [] = 0
 optionals (r ∷ rs) = cond (r .optional) 1 0 + optionals rs
 
 -- in no kind more than four
-counted : allBelow (λ k. leb (optionals (table k)) 4) 8 ≡ true
+few : (kind : ℕ) → optionals (table kind) ≤ 4
 unfolding allBelow
-counted = refl
-
-few : (kind : ℕ) → kind ≤ 7 → optionals (table kind) ≤ 4
-few kind h = leb-true (optionals (table kind)) 4 (at-each (λ k. leb (optionals (table k)) 4) 8 counted kind (omega arith))
+few kind = leb-true _ _ (of-every (λ rows. leb (optionals rows) 4) refl kind)
 
 tag-long : (t : ℕ) → 1 ≤ length (tagBytes t)
 tag-long t = elim (which (ltb t 256)) [
@@ -69,4 +67,4 @@ sheet-bound kind today vs c h =
     let body = encode (table kind) vs in
     let b = rows-bound today (table kind) vs (h .allowed) in
     let l = length-append (lengthBytes (length body)) body in
-    omega (arith, b, few kind (h .kind-is .1), ap length (h .written), l, length-long (length body))
+    omega (arith, b, few kind, ap length (h .written), l, length-long (length body))

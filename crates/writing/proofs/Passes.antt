@@ -7,12 +7,13 @@ use mathlib.Core.Option.{Option, none, some}
 use mathlib.Core.List.{List, [], _∷_, _++_, append-assoc}
 use native.Mathlib.Nat.{zero-add}
 use native.Mathlib.Omega.{arith}
-use lib.Dec.{leb, eqb}
+use lib.Dec.{eqb}
 use lib.Seq.{drop-nil}
 use lib.ListN.{length, drop, length-append, length-drop, drop-of-length-le}
-use borrow.Author.Tests.{leb-true, eqb-false, ne-eqb, eq-eqb}
+use borrow.Author.Tests.{eqb-false, ne-eqb, eq-eqb}
 use Rattle.laws.proofs.Cases.{which}
 use Rattle.kinds.specs.Tables.{Entry, Table, table, permitted, find, first, rowOf, rowAt}
+use Rattle.kinds.proofs.Every.{few-rows}
 use Rattle.kinds.specs.declared.Slot.the-variants.{Holds, End}
 use Rattle.lengths.specs.Length.{lengthBytes}
 use Rattle.rules.specs.Rules.{ruleOf}
@@ -24,7 +25,7 @@ use Rattle.verdicts.specs.declared.Outcome.{Outcome}
 use Rattle.verdicts.specs.declared.Outcome.the-variants.{Fine, Broken}
 use Rattle.container.specs.Container.{Values, tagBytes, has, encode}
 use Rattle.container.proofs.Rows.{Distinct}
-use Rattle.container.proofs.Tags.{of-each, distinct, tags, Plain, Tags, short, double}
+use Rattle.container.proofs.Tags.{distinct, tags, Plain, Tags, short, double}
 use Rattle.writing.specs.Writing.{ahead, opened, keptOr, judged}
 use Rattle.writing.specs.Sections.{sectionAt, held, elementBytes, bodyOf, judgedBy}
 use Rattle.writing.specs.declared.Section.the-variants.{Torn}
@@ -34,12 +35,9 @@ use Rattle.writing.proofs.Rows.{no-rows, Skipped, Met, valueIn, torn}
 
 -- ---- the rows of a table: fifteen at most, tags of two bytes at most, each found by its tag
 
-pub few : (kind : ℕ) → length (table kind) ≤ 15
-few kind = leb-true _ _ (of-each (λ rows. leb (length rows) 15) refl refl refl refl refl refl refl refl kind)
-
 -- a row that is there is one of the fifteen
 pub counted : (kind n : ℕ) {r : Entry} {rs : Table} → drop n (table kind) ≡ r ∷ rs → n + 1 ≤ 15
-counted kind n e = omega (arith, few kind, length-drop n (table kind), ap length e)
+counted kind n e = omega (arith, few-rows kind, length-drop n (table kind), ap length e)
 
 tag-in : (all : Table) (n : ℕ) (rows : Table) {r : Entry} {rs : Table} → Tags all rows → drop n rows ≡ r ∷ rs → Plain all (r .tag)
 tag-in all zero [] p e = let z : _≡_ {A = ℕ} 0 1 = cc in absurd (omega arith)

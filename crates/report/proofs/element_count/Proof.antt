@@ -6,7 +6,7 @@ use borrow.Author.Needs.{needs}
 use Rattle.kinds.specs.Tables.{rowAt}
 use Rattle.kinds.specs.declared.Slot.the-variants.{Holds}
 use Rattle.container.specs.Container.{Values}
-use Rattle.container.proofs.Walk.{row-few}
+use Rattle.kinds.proofs.Every.{row-few}
 use Rattle.container.proofs.Passing.{Passed, none-passed, all-passed, absent-passed, value-passed}
 use Rattle.report.specs.Report.{elementCount}
 use Rattle.report.proofs.Lines.{count-none, count-some}

@@ -8,7 +8,7 @@ use Rattle.kinds.specs.Tables.{rowAt}
 use Rattle.kinds.specs.declared.Slot.the-variants.{Holds}
 use Rattle.container.specs.Places.{Inside}
 use Rattle.container.specs.declared.Found.the-variants.{At}
-use Rattle.container.proofs.Walk.{row-few}
+use Rattle.kinds.proofs.Every.{row-few}
 use Rattle.container.proofs.Passing.{Passed, none-passed, all-passed, absent-passed, value-passed}
 use Rattle.report.proofs.Lines.{Lined, lined-start, lined-none, lined-some}
 use Rattle.report.proofs.put_lines.Statement.{statement}

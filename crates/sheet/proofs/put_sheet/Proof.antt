@@ -15,7 +15,7 @@ use Rattle.container.specs.Container.{Values}
 use Rattle.container.specs.Places.{Inside}
 use Rattle.container.specs.declared.Found.the-variants.{At}
 use Rattle.sheet.specs.Sheet.{sheetOf}
-use Rattle.container.proofs.Walk.{row-few}
+use Rattle.kinds.proofs.Every.{row-few}
 use Rattle.container.proofs.Passing.{Passed, none-passed, all-passed, absent-passed, value-passed}
 use Rattle.sheet.proofs.Sheets.{sheet-next, length-next, length-value}
 use Rattle.sheet.proofs.put_sheet.Statement.{statement}

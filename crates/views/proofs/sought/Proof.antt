@@ -7,7 +7,7 @@ use borrow.Author.Needs.{needs}
 use Rattle.kinds.specs.Tables.{table, rowAt}
 use Rattle.kinds.specs.declared.Slot.the-variants.{Holds}
 use Rattle.container.specs.declared.Found.the-variants.{At, Absent}
-use Rattle.container.proofs.Walk.{row-few}
+use Rattle.kinds.proofs.Every.{row-few}
 use Rattle.views.specs.Lies.{seek, sought}
 use Rattle.views.proofs.Seeking.{inside-within, seek-first, seek-end, seek-here, seek-on}
 use Rattle.views.proofs.sought.Statement.{statement}
