@@ -6,6 +6,7 @@ use mathlib.Core.Bool.{cond}
 use mathlib.Core.Option.{Option, none, some}
 use mathlib.Core.List.{List, [], _∷_, _++_}
 use native.Mathlib.Nat.{add-sub-cancel-left}
+use native.Mathlib.Numerals.{add-one}
 use native.Mathlib.Omega.{arith}
 use lib.Dec.{eqb}
 use lib.ListN.{length, take, drop, getD, set, length-set, length-append, length-drop}
@@ -20,13 +21,15 @@ use Rattle.lengths.specs.Length.{lengthBytes, readLength, Spelt}
 use Rattle.lengths.proofs.Writing.{some-bytes}
 use Rattle.lengths.proofs.Spellings.{inside}
 use Rattle.kinds.specs.Tables.{Entry, Table, table}
+use Rattle.verdicts.specs.declared.Finding.{Finding}
+use Rattle.verdicts.specs.declared.Outcome.the-variants.{Fine, Broken}
 use Rattle.container.specs.Container.{Values, tagBytes, long, tagHere, outerTag, Allowed}
-use Rattle.container.specs.Reading.{Parsed, values, fault, Part, bytesOf, prepend, Element, whole, broken, element, follow, parse, inner, outer, located}
+use Rattle.container.specs.Reading.{Parsed, values, fault, Part, bytesOf, alone, prepend, Element, whole, broken, element, follow, parse, inner, outer, located, parsed, outcomeOf}
 use Rattle.container.specs.Map.{laid, noted, mapOf, rowValue, shown}
 use Rattle.container.specs.declared.Map.{Map}
 use Rattle.container.proofs.One.{element-is}
 use Rattle.container.proofs.Tags.{tag-is}
-use Rattle.container.proofs.Noting.{none-noted}
+use Rattle.container.proofs.Noting.{none-noted, map-outcome}
 use Rattle.container.proofs.Exact.{no-values}
 use Rattle.container.proofs.Promise.{in-outer-values, located-conforms}
 use Rattle.kinds.proofs.Every.{few-rows}
@@ -209,27 +212,70 @@ module _ (kind today : ℕ) (c : List ℕ) (b : Bytes c) (ps : List (Option Part
 
 -- ---- and shows its bytes
 
-row-shows : (m : Map) (c : List ℕ) (i : ℕ) (p : Part) → Stands c p → (getD (m .from) i 0 ≡ p .offset) × (getD (m .to) i 0 ≡ p .offset + length (p .bytes)) → rowValue m c i ≡ some (p .bytes)
-row-shows m c i p s h =
-    let n : p .offset + length (p .bytes) ≡ 0 → ⊥ = λ e. omega (arith, s .behind) in
-    rw (h .0, h .1, ne-eqb _ _ n, add-sub-cancel-left, s .bytes)
-
--- the first row of some
+-- the first of some rows that a map notes, and the others
 first-notes : (m : Map) (k : ℕ) (o : Option Part) (ps : List (Option Part)) → Notes m k (o ∷ ps) → (getD (m .from) k 0 ≡ startOf o) × (getD (m .to) k 0 ≡ endOf o)
 first-notes m k o ps n = let z : k + 0 ≡ k = omega arith in rw z at (n 0 (omega arith))
 
 later-notes : (m : Map) (k : ℕ) (o : Option Part) (ps : List (Option Part)) → Notes m k (o ∷ ps) → Notes m (suc k) ps
 later-notes m k o ps n i l = let z : k + suc i ≡ suc k + i = omega arith in rw z at (n (suc i) (omega arith))
 
-rows-show : (m : Map) (c : List ℕ) (ps : List (Option Part)) (k : ℕ) → All c ps → Notes m k ps → shown m c (length ps) k ≡ bytesOf ps
-unfolding shown
-rows-show m c [] k a n = refl
-rows-show m c (none ∷ ps) k a n = rw (first-notes m k none ps n .1) (ap (λ (l : Values). none ∷ l) (rows-show m c ps (suc k) a (later-notes m k none ps n)))
-rows-show m c (some p ∷ ps) k a n =
-    ap₂ (λ (o : Option (List ℕ)) (l : Values). o ∷ l) (row-shows m c k p (a .0) (first-notes m k (some p) ps n)) (rows-show m c ps (suc k) (a .1) (later-notes m k (some p) ps n))
+module _ (m : Map) (c : List ℕ) where
+  row-shows : (k : ℕ) (p : Part) → Stands c p → (getD (m .from) k 0 ≡ p .offset) × (getD (m .to) k 0 ≡ p .offset + length (p .bytes)) → rowValue (m .from) (m .to) c k ≡ some (p .bytes)
+  row-shows k p s h =
+      let n : p .offset + length (p .bytes) ≡ 0 → ⊥ = λ e. omega (arith, s .behind) in
+      rw (h .0, h .1, ne-eqb _ _ n, add-sub-cancel-left, s .bytes)
 
--- the values that the map shows are those that were read
-pub shows : (kind today : ℕ) (c : List ℕ) → Bytes c → (ps : List (Option Part)) → located kind today c ≡ values ps → shown (mapOf (located kind today c)) c (length (table kind)) 0 ≡ bytesOf ps
+  rows-show : (ps : List (Option Part)) (k : ℕ) → All c ps → Notes m k ps → shown (m .from) (m .to) c (length ps) k ≡ bytesOf ps
+  unfolding shown
+  rows-show [] k a n = refl
+  rows-show (none ∷ ps) k a n = rw (first-notes m k none ps n .1) (ap (λ (l : Values). none ∷ l) (rows-show ps (suc k) a (later-notes m k none ps n)))
+  rows-show (some p ∷ ps) k a n =
+      ap₂ (λ (o : Option (List ℕ)) (l : Values). o ∷ l) (row-shows k p (a .0) (first-notes m k (some p) ps n)) (rows-show ps (suc k) (a .1) (later-notes m k (some p) ps n))
+
+-- the row that is next, of n rows, and those after it
+pub shown-next : (starts ends c : List ℕ) (n i : ℕ) → i < n → shown starts ends c (n - i) i ≡ rowValue starts ends c i ∷ shown starts ends c (n - (i + 1)) (i + 1)
+unfolding shown
+shown-next starts ends c n i h = let z : n - i ≡ suc (n - (i + 1)) = omega arith in rw (z, ← add-one i)
+
+-- the values that a container's map shows
+abbrev pub mapValues : ℕ → Map → List ℕ → Values
+mapValues kind m c = shown (m .from) (m .to) c (length (table kind)) 0
+
+-- are those that were read
+pub shows : (kind today : ℕ) (c : List ℕ) → Bytes c → (ps : List (Option Part)) → located kind today c ≡ values ps → mapValues kind (mapOf (located kind today c)) c ≡ bytesOf ps
 shows kind today c b ps e =
     rw (← rows-are kind today c b ps e)
     (rows-show (mapOf (located kind today c)) c ps 0 (stands kind today c b ps e) (λ i h. let z : 0 + i ≡ i = omega arith in rw z (lies kind today c b ps e i h)))
+
+-- ---- what a caller of the judge knows, once it has looked at the outcome
+
+module _ (kind today : ℕ) (c : List ℕ) {m : Map} (e : m ≡ mapOf (located kind today c)) where
+  outcome-is : m .outcome ≡ outcomeOf (alone (located kind today c))
+  outcome-is = ap (λ (m : Map). m .outcome) e ∙ map-outcome (located kind today c)
+
+  -- something is wrong
+  pub told-broken : {f : Finding} → m .outcome ≡ Broken f → located kind today c ≡ fault f
+  told-broken {f} o = go (located kind today c) (sym outcome-is ∙ o)
+    where
+      go : (p : Parsed Part) → outcomeOf (alone p) ≡ Broken f → p ≡ fault f
+      go (values ps) q = let z : _≡_ {A = ℕ} 0 1 = cc in absurd (omega arith)
+      go (fault g) q = cc
+
+  pub read-broken : {f : Finding} → m .outcome ≡ Broken f → parsed kind today c ≡ fault f
+  unfolding parsed
+  read-broken o = ap alone (told-broken o)
+
+  -- nothing is: there are parts
+  pub told-fine : m .outcome ≡ Fine → (ps : List (Option Part)) × (located kind today c ≡ values ps)
+  told-fine o = go (located kind today c) refl (sym outcome-is ∙ o)
+    where
+      go : (p : Parsed Part) → located kind today c ≡ p → outcomeOf (alone p) ≡ Fine → (ps : List (Option Part)) × (located kind today c ≡ values ps)
+      go (values ps) q z = (ps, q)
+      go (fault f) q z = let z : _≡_ {A = ℕ} 0 1 = cc in absurd (omega arith)
+
+  -- and their values are what the map shows
+  pub read-fine : Bytes c → m .outcome ≡ Fine → parsed kind today c ≡ values (mapValues kind m c)
+  unfolding parsed
+  read-fine b o =
+      let (ps, q) = told-fine o in
+      ap alone q ∙ ap values (sym (rw (← e) at (shows kind today c b ps q)))

@@ -8,11 +8,9 @@ use native.Mathlib.Omega.{arith}
 use lib.ListN.{length, getD, set}
 use lib.Seq.{getD-set-same, getD-set-other}
 use Rattle.laws.specs.Room.{zeros}
-use Rattle.verdicts.specs.declared.Finding.{Finding}
 use Rattle.verdicts.specs.declared.Outcome.the-variants.{Fine}
 use Rattle.container.specs.Reading.{Parsed, values, fault, Part, alone, outcomeOf}
-use Rattle.container.specs.Map.{lost, laid, noted, mapOf, Inside}
-use Rattle.container.specs.declared.Map.{Map}
+use Rattle.container.specs.Map.{laid, noted, mapOf, Inside}
 
 nothing : (n k : ℕ) → getD (zeros n) k 0 ≡ 0
 nothing zero k = refl
@@ -23,25 +21,18 @@ nothing (suc n) (suc k) = nothing n k
 pub none-noted : (k : ℕ) → getD (zeros 16) k 0 ≡ 0
 none-noted k = nothing 16 k
 
--- the values that are noted lie within so many bytes
-abbrev pub Lie : List ℕ → List ℕ → ℕ → Type 0
-Lie starts ends size = (k : ℕ) → (getD starts k 0 ≤ getD ends k 0) × (getD ends k 0 ≤ size)
+pub inside-first : (size : ℕ) → Inside (zeros 16) (zeros 16) size
+inside-first size = record { ordered = λ k. rw none-noted (omega arith); within = λ k. rw none-noted (omega arith) }
 
-pub lie-first : (size : ℕ) → Lie (zeros 16) (zeros 16) size
-lie-first size k = rw none-noted (omega arith, omega arith)
-
-pub lie-next : (starts ends : List ℕ) (size i a e : ℕ) → length starts ≡ 16 → length ends ≡ 16 → i < 16 → a ≤ e → e ≤ size → Lie starts ends size → Lie (set starts i a) (set ends i e) size
-lie-next starts ends size i a e p q h o w l k =
-    elim (ℕ-discrete k i) [
-      | yes r ↦ rw (r, getD-set-same starts i a 0 (omega arith), getD-set-same ends i e 0 (omega arith)) (o, w)
-      | no n ↦ rw (getD-set-other starts i k a 0 n, getD-set-other ends i k e 0 n) (l k)
-    ]
-
-pub lie-in : (m : Map) (size : ℕ) → Lie (m .from) (m .to) size → Inside m size
-lie-in m size l = record { ordered = λ k. l k .0; within = λ k. l k .1 }
-
-pub lost-in : (f : Finding) (size : ℕ) → Inside (lost f) size
-lost-in f size = lie-in (lost f) size (lie-first size)
+pub inside-next : (starts ends : List ℕ) (size i a e : ℕ) → length starts ≡ 16 → length ends ≡ 16 → i < 16 → a ≤ e → e ≤ size → Inside starts ends size → Inside (set starts i a) (set ends i e) size
+inside-next starts ends size i a e p q h o w l = record { ordered = λ k. go k .0; within = λ k. go k .1 }
+  where
+    go : (k : ℕ) → (getD (set starts i a) k 0 ≤ getD (set ends i e) k 0) × (getD (set ends i e) k 0 ≤ size)
+    go k =
+        elim (ℕ-discrete k i) [
+          | yes r ↦ rw (r, getD-set-same starts i a 0 (omega arith), getD-set-same ends i e 0 (omega arith)) (o, w)
+          | no n ↦ rw (getD-set-other starts i k a 0 n, getD-set-other ends i k e 0 n) (l .ordered k, l .within k)
+        ]
 
 -- ---- the map's outcome is that of what was read
 

@@ -38,19 +38,20 @@ noted k from to (fault f) = lost f
 abbrev pub mapOf : Parsed Part → Map
 mapOf p = noted 0 (zeros 16) (zeros 16) p
 
+-- ---- what a map shows, by where each row's value starts and ends
+
 -- every row's value lies within so many bytes
-pub record Inside (m : Map) (size : ℕ) : Type 0 where
-  pub ordered : (k : ℕ) → getD (m .from) k 0 ≤ getD (m .to) k 0
-  pub within : (k : ℕ) → getD (m .to) k 0 ≤ size
+pub record Inside (starts ends : List ℕ) (size : ℕ) : Type 0 where
+  pub ordered : (k : ℕ) → getD starts k 0 ≤ getD ends k 0
+  pub within : (k : ℕ) → getD ends k 0 ≤ size
 
--- ---- what the map shows of the bytes c: the value of a row, none where its end is 0; and the values of n rows from number i on
+-- the value of row i in the bytes c, none where its end is 0; and the values of n rows from number i on
+abbrev pub rowValue : List ℕ → List ℕ → List ℕ → ℕ → Option (List ℕ)
+rowValue starts ends c i = cond (eqb (getD ends i 0) 0) none (some (part c (getD starts i 0) (getD ends i 0 - getD starts i 0)))
 
-abbrev pub rowValue : Map → List ℕ → ℕ → Option (List ℕ)
-rowValue m c i = cond (eqb (getD (m .to) i 0) 0) none (some (part c (getD (m .from) i 0) (getD (m .to) i 0 - getD (m .from) i 0)))
-
-unfoldable pub shown : Map → List ℕ → ℕ → ℕ → Values
-shown m c zero i = []
-shown m c (suc n) i = rowValue m c i ∷ shown m c n (suc i)
+unfoldable pub shown : List ℕ → List ℕ → List ℕ → ℕ → ℕ → Values
+shown starts ends c zero i = []
+shown starts ends c (suc n) i = rowValue starts ends c i ∷ shown starts ends c n (suc i)
 
 -- ---- a turn of the walk over the elements
 

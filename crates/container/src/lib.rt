@@ -159,7 +159,7 @@ fn element(kind: u64, today: u64, c: &[u8], at: usize, done: u64) -> Step
 fn elements(kind: u64, today: u64, c: &[u8], start: usize) -> Map
     requires { ⌜ (start ≤ length (now c)) × (length (now c) ≤ 32768) ⌝ }
     ensures { λ r. ⌜ r ≡ mapFrom kind today (now (c .entry)) start 0 (zeros 16) (zeros 16) ⌝ }
-    ensures { λ r. ⌜ Inside r (length (now (c .entry))) ⌝ }
+    ensures { λ r. ⌜ Inside (r .from) (r .to) (length (now (c .entry))) ⌝ }
 {
     let mut from = [0u16; 16];
     let mut to = [0u16; 16];
@@ -203,7 +203,7 @@ pub fn outer_tag(kind: u64) -> u8
 fn whole(kind: u64, today: u64, c: &[u8]) -> Map
     requires { ⌜ length (now c) ≤ 32768 ⌝ }
     ensures { λ r. ⌜ r ≡ mapOf (outer kind today (now (c .entry))) ⌝ }
-    ensures { λ r. ⌜ Inside r (length (now (c .entry))) ⌝ }
+    ensures { λ r. ⌜ Inside (r .from) (r .to) (length (now (c .entry))) ⌝ }
 {
     if c.len() == 0 {
         return outright(Fault::OuterTag);
@@ -225,7 +225,7 @@ fn whole(kind: u64, today: u64, c: &[u8]) -> Map
 // The check, and the map of what it read: 1, 2, 4, then the outer form, then each element.
 pub fn judge(kind: u64, today: u64, c: &[u8]) -> Map
     ensures { λ r. ⌜ r ≡ mapOf (located kind today (now (c .entry))) ⌝ }
-    ensures { λ r. ⌜ Inside r (length (now (c .entry))) ⌝ }
+    ensures { λ r. ⌜ Inside (r .from) (r .to) (length (now (c .entry))) ⌝ }
 {
     if !kinds::is_kind(kind) {
         return outright(Fault::UnknownKind);
@@ -250,7 +250,7 @@ pub fn check(kind: u64, today: u64, container: &[u8]) -> Verdict
 
 // The value of a row, by the map; no bytes where it is absent.
 pub fn part<'a>(c: &'a [u8], map: Map, row: usize) -> &'a [u8]
-    requires { ⌜ (row < 16) × Inside map (length (now c)) ⌝ }
+    requires { ⌜ (row < 16) × Inside (map .from) (map .to) (length (now c)) ⌝ }
     ensures { λ r. ⌜ now r ≡ part (now (c .entry)) (getD (map .from) row 0) (getD (map .to) row 0 - getD (map .from) row 0) ⌝ }
     ensures { λ r. ⌜ (r .ptr .0 ≡ c .entry .ptr .0) × (r .ptr .1 ≡ c .entry .ptr .1 + getD (map .from) row 0) ⌝ }
 {

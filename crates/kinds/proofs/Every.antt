@@ -8,10 +8,10 @@ use native.Mathlib.Omega.{arith}
 use native.Mathlib.Decide.{decLt}
 use lib.Dec.{leb, eqb}
 use lib.ListN.{length, drop-of-length-le, List·getD-eq-default}
-use borrow.Author.Tests.{leb-true}
+use borrow.Author.Tests.{leb-true, eqb-true}
 use Rattle.laws.specs.Tests.{allBelow}
 use Rattle.laws.proofs.Cases.{which, at-each, along}
-use Rattle.kinds.specs.Tables.{Table, tables, table, find, rowOf, first, rowAt}
+use Rattle.kinds.specs.Tables.{Table, tables, table, find, rowOf, first, rowAt, lastOf, lastRow}
 use Rattle.kinds.specs.declared.ValueRule.{ValueRule}
 use Rattle.kinds.specs.declared.Row.the-variants.{At}
 use Rattle.kinds.specs.declared.Slot.the-variants.{Holds, End}
@@ -33,6 +33,11 @@ no-table kind h = List·getD-eq-default ([] ∷ tables) [] h
 pub few-rows : (kind : ℕ) → length (table kind) ≤ 15
 unfolding allBelow
 few-rows kind = leb-true _ _ (of-every (λ rows. leb (length rows) 15) refl kind)
+
+-- every table ends with a row that must be there: its last mandatory row is its last
+pub last-is-all : (kind : ℕ) → lastRow kind ≡ length (table kind)
+unfolding allBelow
+last-is-all kind = eqb-true _ _ (of-every (λ rows. eqb (lastOf 0 0 rows) (length rows)) refl kind)
 
 -- a row that is there is one of the first fifteen
 pub row-few : (kind n : ℕ) {tag : ℕ} {optional : Bool} → rowAt kind n ≡ Holds tag optional → n < 15

@@ -7,9 +7,10 @@ use Rattle.lengths.specs.Length.{readLength}
 use Rattle.dates.specs.Calendar.{exists, daysIn}
 use Rattle.dates.specs.Date.{isDate}
 use Rattle.rules.specs.Rules.{ruleOf}
+use Rattle.verdicts.specs.Verdicts.{found}
 use Rattle.verdicts.specs.Output.{refusal, text}
 use Rattle.verdicts.specs.declared.Fault.the-variants.{SmallRoom, UnknownTag}
-use Rattle.container.specs.Reading.{element, parsed}
+use Rattle.container.specs.Reading.{element, located, parsed}
 use Rattle.sheet.specs.Sheet.{sheetOf}
 use Rattle.sheet.specs.Calls.{readOutput}
 
@@ -23,15 +24,15 @@ abbrev security : List ℕ
 security = 0x53 ∷ 8 ∷ 0xBA ∷ 2 ∷ 0x10 ∷ 0x20 ∷ 0xBB ∷ 0 ∷ 0xFE ∷ 0 ∷ []
 
 pub security-sheet : readOutput 5 20260601 security 8 ≡ text (0 ∷ 3 ∷ 0x10 ∷ 0x20 ∷ 0 ∷ 1 ∷ 0 ∷ 1 ∷ [])
-unfolding readOutput parsed isDate exists daysIn readLength element ruleOf sheetOf
+unfolding readOutput parsed located isDate exists daysIn readLength element ruleOf sheetOf
 security-sheet = refl
 
 -- a room of one byte less
-pub security-small : readOutput 5 20260601 security 7 ≡ refusal SmallRoom 0
-unfolding readOutput parsed isDate exists daysIn readLength element ruleOf sheetOf
+pub security-small : readOutput 5 20260601 security 7 ≡ refusal (found SmallRoom 0)
+unfolding readOutput parsed located isDate exists daysIn readLength element ruleOf sheetOf
 security-small = refl
 
 -- "Read: check, then 3": as PRINTED it breaks a rule, and the room is not looked at
-pub security-printed : readOutput 4 20260601 security 7 ≡ refusal UnknownTag 2
-unfolding readOutput parsed isDate exists daysIn readLength element ruleOf sheetOf
+pub security-printed : readOutput 4 20260601 security 7 ≡ refusal (found UnknownTag 2)
+unfolding readOutput parsed located isDate exists daysIn readLength element ruleOf sheetOf
 security-printed = refl

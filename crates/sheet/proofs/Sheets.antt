@@ -1,10 +1,12 @@
 -- Sheets: how long they are, that a sheet tells its values, and that the values of a container that conforms have one. Assumes nothing.
-use Prim.Native.Nat.{ℕ, _+_, _-_, _/_, _%_, _≤_, _<_}
+use Prim.Native.Nat.{ℕ, suc, _+_, _-_, _/_, _%_, _≤_, _<_}
 use mathlib.Core.Path.{_≡_, refl, sym, ap, ap₂, _∙_}
 use mathlib.Core.Option.{Option, none, some}
 use mathlib.Core.List.{List, [], _∷_, _++_, append-assoc, append-nil}
+use native.Mathlib.Numerals.{add-one}
 use native.Mathlib.Omega.{arith}
-use lib.ListN.{length, take, drop, length-append}
+use borrow.Author.Tests.{ne-eqb}
+use lib.ListN.{length, getD, take, drop, length-append}
 use lib.Seq.{take-append-seam, drop-append-seam}
 use Rattle.laws.specs.Bytes.{Bytes}
 use Rattle.laws.specs.Layout.{part}
@@ -14,14 +16,9 @@ use Rattle.lengths.specs.Length.{lengthBytes}
 use Rattle.kinds.specs.Tables.{Table, table}
 use Rattle.container.specs.Container.{Values, tagBytes, encode, Allowed, Conforms}
 use Rattle.container.proofs.Exact.{bytes-front, bytes-back}
+use Rattle.container.specs.Map.{shown}
+use Rattle.container.proofs.Lying.{shown-next}
 use Rattle.sheet.specs.Sheet.{count, section, sheetOf, Countable, Sheeted, IsSheet}
-
--- ---- one section more
-
-pub sheet-next : (vs : Values) (o : Option (List ℕ)) → sheetOf (vs ++ (o ∷ [])) ≡ sheetOf vs ++ section o
-unfolding sheetOf
-sheet-next [] o = append-nil (section o)
-sheet-next (p ∷ vs) o = ap (λ (l : List ℕ). section p ++ l) (sheet-next vs o) ∙ sym (append-assoc (section p) (sheetOf vs) (section o))
 
 -- ---- how long: two bytes for each row, and the values
 
@@ -37,15 +34,19 @@ pub sheet-length : (o : Option (List ℕ)) (vs : Values) → length (sheetOf (o 
 unfolding sheetOf
 sheet-length o vs = length-append (section o) (sheetOf vs) ∙ ap (λ (n : ℕ). n + length (sheetOf vs)) (section-length o)
 
-pub length-next : (vs : Values) (o : Option (List ℕ)) → length (sheetOf (vs ++ (o ∷ []))) ≡ length (sheetOf vs) + sized o
-length-next vs o = ap length (sheet-next vs o) ∙ length-append (sheetOf vs) (section o) ∙ ap (λ (n : ℕ). length (sheetOf vs) + n) (section-length o)
+-- ---- the sheet of what a map shows, by the row that is next
 
--- by the offsets between which the value lies
-pub length-value : (size : ℕ) (c : List ℕ) (from to : ℕ) → from ≤ to → to ≤ length c → (vs : Values) → size ≡ length (sheetOf vs)
-    → size + (2 + (to - from)) ≡ length (sheetOf (vs ++ (some (part c from (to - from)) ∷ [])))
-length-value size c from to h k vs e =
-    let l : length (part c from (to - from)) ≡ to - from = part-long c from (to - from) (omega arith) in
-    rw (length-next vs (some (part c from (to - from))), l, e)
+module _ (starts ends c : List ℕ) (n i : ℕ) (h : i < n) where
+  abbrev rest : Values
+  rest = shown starts ends c (n - (i + 1)) (i + 1)
+
+  pub absent-next : getD ends i 0 ≡ 0 → sheetOf (shown starts ends c (n - i) i) ≡ count 0 ++ sheetOf rest
+  unfolding sheetOf
+  absent-next e = rw (shown-next starts ends c n i h, e)
+
+  pub value-next : (getD ends i 0 ≡ 0 → ⊥) → sheetOf (shown starts ends c (n - i) i) ≡ section (some (part c (getD starts i 0) (getD ends i 0 - getD starts i 0))) ++ sheetOf rest
+  unfolding sheetOf
+  value-next e = rw (shown-next starts ends c n i h, ne-eqb _ _ e)
 
 -- ---- a sheet tells its values
 

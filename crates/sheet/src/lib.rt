@@ -2,15 +2,14 @@
 // bytes."
 ghost use mathlib.Core.Path.{_≡_};
 ghost use mathlib.Core.Option.{some};
-ghost use Prim.Native.Nat.{ℕ};
 ghost use lib.ListN.{length};
 ghost use Rattle.laws.specs.Room.{laid, Put};
 ghost use Rattle.verdicts.specs.Output.{Leaves};
-ghost use Rattle.container.specs.Container.{Values, Conforms};
+ghost use Rattle.kinds.specs.Tables.{table};
+ghost use Rattle.container.specs.Map.{Inside, shown};
 ghost use Rattle.sheet.specs.Sheet.{count, section, sheetOf};
 ghost use Rattle.sheet.specs.Calls.{readOutput};
-use container::Found;
-use kinds::Slot;
+use container::Map;
 use verdicts::Done;
 use verdicts::Fault;
 use verdicts::Outcome;
@@ -31,48 +30,51 @@ fn put_section(value: &[u8], out: &mut [u8]) -> usize
     at + room::put_all(value, &mut out[at..])
 }
 
-// The sheet of a container that conforms, a section for each row, as far as the room goes; and how long it is as a whole: two
-// bytes for each row, and the values.
-fn put_sheet(kind: u64, c: &[u8], out: &mut [u8]) -> usize
-    ensures { λ r. ⌜ ((today : ℕ) (vs : Values) → Conforms kind today vs (now (c .entry)) → (r ≡ length (sheetOf vs)) × (now (out .exit) ≡ laid (sheetOf vs) (now (out .entry)))) ⌝ }
+// The sheet of the values that the map shows, a section for each row, as far as the room goes; and how long it is as a whole:
+// two bytes for each row, and the values.
+fn put_sheet(kind: u64, c: &[u8], map: Map, out: &mut [u8]) -> usize
+    requires { ⌜ Inside (map .from) (map .to) (length (now c)) ⌝ }
+    ensures { λ r. ⌜ r ≡ length (sheetOf (shown (map .from) (map .to) (now (c .entry)) (length (table kind)) 0)) ⌝ }
+    ensures { λ r. ⌜ now (out .exit) ≡ laid (sheetOf (shown (map .from) (map .to) (now (c .entry)) (length (table kind)) 0)) (now (out .entry)) ⌝ }
 {
+    let froms = map.from;
+    let tos = map.to;
+    let rows = kinds::last_row(kind);
     let mut at = 0;
     let mut size: usize = 0;
-    let mut from = container::first_element(c);
     let mut row: u64 = 0;
-    while let Slot::Holds(tag, _) = kinds::row_at(kind, row) {
+    while row < rows {
+        let start = froms[row as usize] as usize;
+        let end = tos[row as usize] as usize;
         row += 1;
-        match container::found_at(kind, tag, c, from) {
-            Found::Absent => {
-                at += put_count(0, &mut out[at..]);
-                size += 2;
-            }
-            Found::At(start, end) => {
-                at += put_section(&c[start..end], &mut out[at..]);
-                size += 2 + (end - start);
-                from = end;
-            }
+        if end == 0 {
+            at += put_count(0, &mut out[at..]);
+            size += 2;
+        } else {
+            at += put_section(&c[start..end], &mut out[at..]);
+            size += 2 + (end - start);
         }
     }
     size
 }
 
 // "Read: check, then 3." The sheet's bytes, and zeros after them: 0; or the fault of the check, or 3, and zeros alone. Whether
-// the room is too small shows once the sheet is in it as far as it goes: so a container is gone through once after the check,
-// and only what the sheet leaves of the room is cleared.
+// the room is too small shows once the sheet is in it as far as it goes, and only what the sheet leaves of the room is cleared.
 pub fn read(kind: u64, today: u64, container: &[u8], sheet: &mut [u8]) -> Done
     ensures { λ r. ⌜ Leaves (readOutput kind today (now (container .entry)) (length (now (sheet .entry)))) (now (sheet .entry)) (now (sheet .exit)) r ⌝ }
 {
-    match container::judge(kind, today, container) {
-        Outcome::Broken(f, place) => {
+    let map = container::judge(kind, today, container);
+    let outcome = map.outcome;
+    match outcome {
+        Outcome::Broken(f) => {
             room::clear(sheet);
-            verdicts::refused(f, place)
+            verdicts::refused(f)
         }
         Outcome::Fine => {
-            let size = put_sheet(kind, container, sheet);
+            let size = put_sheet(kind, container, map, sheet);
             if sheet.len() < size {
                 room::clear(sheet);
-                return verdicts::refused(Fault::SmallRoom, 0);
+                return verdicts::refused(verdicts::found(Fault::SmallRoom, 0));
             }
             room::clear(&mut sheet[size..]);
             verdicts::wrote(size)

@@ -5,7 +5,7 @@ use borrow.Author.Needs.{needs}
 use borrow.Author.Tests.{not-true, not-false}
 use Rattle.dates.specs.Date.{isDate}
 use Rattle.kinds.specs.Tables.{isKind}
-use Rattle.container.proofs.Noting.{lost-in}
+use Rattle.container.proofs.Noting.{inside-first}
 use Rattle.container.proofs.Ways.{bad-kind, bad-date, too-large, goes-in}
 use Rattle.container.proofs.judge.Statement.{statement}
 use Rattle.container.proofs.judge.Tie as tie
@@ -18,14 +18,14 @@ returns : tie.Need-returns
 returns c =
     let t = c .before in
     let a = t .before .before .before .args in
-    (c .outright .ensures ∙ bad-kind (a .kind) (a .today) (a .c .now) (sym (t .before .is-kind .ensures) ∙ not-true _ (t .if1 .taken)), rw (c .outright .ensures) (lost-in _ _))
+    (c .outright .ensures ∙ bad-kind (a .kind) (a .today) (a .c .now) (sym (t .before .is-kind .ensures) ∙ not-true _ (t .if1 .taken)), rw (c .outright .ensures) (inside-first _))
 
 returns-2 : tie.Need-returns-2
 returns-2 c =
     let t = c .before in
     let e = t .before .before in
     let a = e .before .before .before .args in
-    (c .outright2 .ensures ∙ bad-date (a .kind) (a .today) (a .c .now) (a-kind e) (sym (t .before .is-date .ensures) ∙ not-true _ (t .if2 .taken)), rw (c .outright2 .ensures) (lost-in _ _))
+    (c .outright2 .ensures ∙ bad-date (a .kind) (a .today) (a .c .now) (a-kind e) (sym (t .before .is-date .ensures) ∙ not-true _ (t .if2 .taken)), rw (c .outright2 .ensures) (inside-first _))
 
 -- the date is one
 a-date : (e : tie.Else2) → isDate (e .before .before .before .before .before .args .today) ≡ true
@@ -36,7 +36,7 @@ returns-3 c =
     let t = c .before in
     let e = t .before in
     let a = e .before .before .before .before .before .args in
-    (c .outright3 .ensures ∙ too-large (a .kind) (a .today) (a .c .now) (a-kind (e .before .before)) (a-date e) (t .if3 .taken), rw (c .outright3 .ensures) (lost-in _ _))
+    (c .outright3 .ensures ∙ too-large (a .kind) (a .today) (a .c .now) (a-kind (e .before .before)) (a-date e) (t .if3 .taken), rw (c .outright3 .ensures) (inside-first _))
 
 returns-4 : tie.Need-returns-4
 returns-4 c =

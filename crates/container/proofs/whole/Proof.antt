@@ -9,7 +9,7 @@ use Rattle.laws.proofs.Bases.{below-of}
 use Rattle.lengths.specs.Length.{lengthAt}
 use Rattle.lengths.specs.declared.Length.the-variants.{Is}
 use Rattle.container.specs.Container.{outerTag}
-use Rattle.container.proofs.Noting.{lost-in}
+use Rattle.container.proofs.Noting.{inside-first}
 use Rattle.container.proofs.Ways.{no-bytes, wrong-tag, no-length, within-outer, off-end, fits-outer}
 use Rattle.container.proofs.whole.Statement.{statement}
 use Rattle.container.proofs.whole.Tie as tie
@@ -30,13 +30,13 @@ within k =
     within-outer (k .before .before .before .before .before .before .before .before .before .args .c .now) (bytes k) z (told k)
 
 returns : tie.Need-returns
-returns c = (c .outright .ensures ∙ no-bytes _ _ (c .before .before .before .args .c .now) (c .before .if1 .taken), rw (c .outright .ensures) (lost-in _ _))
+returns c = (c .outright .ensures ∙ no-bytes _ _ (c .before .before .before .args .c .now) (c .before .if1 .taken), rw (c .outright .ensures) (inside-first _))
 
 returns-2 : tie.Need-returns-2
 returns-2 c =
     let t = c .before in
     let a = t .before .before .before .before .before .args in
-    (c .outright2 .ensures ∙ wrong-tag (a .kind) (a .today) (a .c .now) (λ q. t .if2 .taken (q ∙ sym (t .before .outer-tag .ensures))), rw (c .outright2 .ensures) (lost-in _ _))
+    (c .outright2 .ensures ∙ wrong-tag (a .kind) (a .today) (a .c .now) (λ q. t .if2 .taken (q ∙ sym (t .before .outer-tag .ensures))), rw (c .outright2 .ensures) (inside-first _))
 
 returns-3 : tie.Need-returns-3
 returns-3 c =
@@ -45,7 +45,7 @@ returns-3 c =
     let e = k .before .before .before .before in
     let a = e .before .before .before .before .before .args in (
       c .outright4 .ensures ∙ off-end (a .kind) (a .today) (a .c .now) (bytes k) (e .before .before .before .if1 .left) (tagged e) (told k) (omega (arith, t .if3 .taken)),
-      rw (c .outright4 .ensures) (lost-in _ _),
+      rw (c .outright4 .ensures) (inside-first _),
     )
 
 returns-4 : tie.Need-returns-4
@@ -54,7 +54,7 @@ returns-4 c =
     let e = t .before .before .before in
     let a = e .before .before .before .before .before .args in (
       c .outright3 .ensures ∙ no-length (a .kind) (a .today) (a .c .now) (e .before .before .before .if1 .left) (tagged e) (sym (t .enum-told .given .1) ∙ t .before .before .read-length .ensures),
-      rw (c .outright3 .ensures) (lost-in _ _),
+      rw (c .outright3 .ensures) (inside-first _),
     )
 
 returns-5 : tie.Need-returns-5
