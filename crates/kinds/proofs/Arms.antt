@@ -15,6 +15,13 @@ abbrev pub Others : List ℕ → ℕ → Type 0 → Type 0
 Others [] n A = A
 Others (k ∷ ks) n A = Others ks n (A × (n ≡ k → ⊥))
 
+-- the same over a table's tags
+abbrev pub Rest : Table → ℕ → Type 0 → Type 0
+Rest [] t A = A
+Rest (r ∷ rs) t A = Rest rs t (A × (t ≡ r .tag → ⊥))
+
+-- ---- by the place in a list
+
 -- the numbers of what is in a list, from i on
 abbrev pub numbered : {A : Type 0} → ℕ → List A → List ℕ
 numbered i [] = []
@@ -26,17 +33,12 @@ past (x ∷ l) i n B f h =
     let g = past l (suc i) n (B × (n ≡ i → ⊥)) (λ b. let m = f (b .0) in let k = b .1 in omega arith) h in
     omega arith
 
--- the kinds are numbered from 1: a number that is none of a list's has what stands for none
+-- kinds are numbered from 1: for a number that is none of theirs a list has what stands for none
 pub none-listed : {A : Type 0} (l : List A) (d : A) (n : ℕ) → Others (numbered 1 l) n Unit → d ≡ getD (d ∷ l) n d
 none-listed l d zero h = refl
 none-listed l d (suc n) h =
     let g = past l 1 (suc n) Unit (λ u. omega arith) h in
     sym (List·getD-eq-default l d {n = n} (omega arith))
-
--- the same over a table's tags
-abbrev pub Rest : Table → ℕ → Type 0 → Type 0
-Rest [] t A = A
-Rest (r ∷ rs) t A = Rest rs t (A × (t ≡ r .tag → ⊥))
 
 -- ---- by the tag
 

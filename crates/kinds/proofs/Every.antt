@@ -25,6 +25,7 @@ of-every-kind test t e kind = along ([] ∷ tables) [] test t e kind
 pub of-every : (test : Table → Bool) → allBelow (λ k. test (table k)) (length ([] ∷ tables)) ≡ true → (kind : ℕ) → test (table kind) ≡ true
 of-every test t = of-every-kind (λ k rows. test rows) t (λ k. at-each (λ k. test (table k)) (length ([] ∷ tables)) t 0 (omega arith))
 
+-- a number past the last kind
 pub no-table : (kind : ℕ) → length ([] ∷ tables) ≤ kind → table kind ≡ []
 no-table kind h = List·getD-eq-default ([] ∷ tables) [] h
 

@@ -2,7 +2,7 @@
 use Prim.Native.Nat.{ℕ, suc, _+_, _*_, _^_, _≤_, _<_}
 use mathlib.Core.Logic.{inl, inr}
 use mathlib.Core.Path.{_≡_, refl, ap, _∙_}
-use mathlib.Core.Bool.{Bool, true, false, cond, _&&_}
+use mathlib.Core.Bool.{Bool, true, cond, _&&_}
 use mathlib.Core.Option.{Option, none, some}
 use mathlib.Core.List.{List, [], _∷_, _++_}
 use native.Mathlib.Omega.{arith}
@@ -12,12 +12,11 @@ use borrow.Author.Tests.{eqb-true, leb-true}
 use Rattle.laws.specs.Bytes.{Bytes}
 use Rattle.laws.specs.Tests.{allBelow}
 use Rattle.laws.proofs.Bases.{below-drop}
-use Rattle.laws.proofs.Cases.{test, which, and-true}
+use Rattle.laws.proofs.Cases.{test, which, and-true, along}
 use Rattle.lengths.specs.Length.{Spelt, lengthBytes, readLength}
 use Rattle.lengths.proofs.Spellings.{inside}
-use Rattle.texts.specs.Text.{ascii}
 use Rattle.texts.proofs.Bounds.{decimal-length, fixed-length, hex-length, tag-most}
-use Rattle.kinds.specs.Tables.{Entry, Table, table, printed, Permitted}
+use Rattle.kinds.specs.Tables.{Entry, Table, table, Permitted}
 use Rattle.kinds.proofs.Every.{of-every, few-rows}
 use Rattle.verdicts.specs.Verdicts.{numberOf}
 use Rattle.verdicts.specs.declared.Fault.{Fault}
@@ -28,9 +27,9 @@ use Rattle.container.specs.Reading.{Parsed, values, fault, prepend, Element, wh
 use Rattle.container.proofs.One.{element-is, good-fits}
 use Rattle.container.proofs.Tags.{tag-is}
 use Rattle.container.proofs.Exact.{bytes-front, bytes-back}
-use Rattle.report.specs.Open.{Open, nothing, model, holder, card, policy, issuer, openOf}
-use Rattle.report.specs.Report.{kindName, cardPart, elementLines, elementCount, openPart, reportText}
-use Rattle.report.proofs.Valued.{value-fits, row-long}
+use Rattle.report.specs.Open.{Open, nothing, model, holder, card, policy, issuer, Opening, opensNone, opensModel, opensCard, opensPolicy, opensIssuer, opensHolder, openBy, taggedValue, openOf}
+use Rattle.report.specs.Report.{names, kindName, cardPart, elementLines, elementCount, openPart, reportText}
+use Rattle.report.proofs.Openings.{opening, sound, sound-kind, value-takes}
 
 -- ---- what is read of n bytes: values that are allowed, or a fault at a place within them
 
@@ -106,17 +105,8 @@ module _ (today : ℕ) where
 -- ---- the parts
 
 kind-length : (kind : ℕ) → length (kindName kind) ≤ 9
-kind-length kind =
-    small (eqb kind 1) (ascii "CCC") _ (omega arith)
-    (small (eqb kind 2) (ascii "CHUID") _ (omega arith)
-    (small (eqb kind 3) (ascii "DISCOVERY") _ (omega arith)
-    (small (eqb kind 4) (ascii "PRINTED") _ (omega arith)
-    (small (eqb kind 5) (ascii "SECURITY") _ (omega arith)
-    (small (eqb kind 6) (ascii "FINGERS") (ascii "FACE") (omega arith) (omega arith))))))
-  where
-    small : (b : Bool) (x y : List ℕ) → length x ≤ 9 → length y ≤ 9 → length (cond b x y) ≤ 9
-    small true x y p q = p
-    small false x y p q = q
+unfolding allBelow
+kind-length kind = leb-true _ _ (along ([] ∷ names) [] (λ k name. leb (length name) 9) refl (λ k. refl) kind)
 
 card-length : (kind size today verdict place : ℕ) → size < 10 ^ 5 → verdict < 10 ^ 2 → place < 10 ^ 5 → length (cardPart kind size today verdict place) ≤ 66
 unfolding cardPart
@@ -190,15 +180,15 @@ open-length (policy p) h = simp (length-append, hex-length) (omega arith)
 open-length (issuer v) h = simp length-append (omega arith)
 
 open-short : (kind today : ℕ) (vs : Values) → Allowed today (table kind) vs → Short (openOf kind vs)
-open-short kind today vs a =
-    pick (eqb kind 1) model _ (λ e. tt)
-    (pick (eqb kind 2) _ _ (λ e. tt)
-    (pick (eqb kind 3) _ _ (λ e. tt)
-    (pick (eqb kind 4) _ _ (λ e. rw (eqb-true kind 4 e) (row-long 15 _ (value-fits today 0x06 printed vs refl (rw (eqb-true kind 4 e) at a) .long)))
-    (pick (eqb kind 5) _ _ (λ e. tt) tt))))
+open-short kind today vs a = go (opening kind) (sound-kind kind)
   where
-    pick : (b : Bool) (x y : Open) → (b ≡ true → Short x) → Short y → Short (cond b x y)
-    pick b x y p q = test b (λ t. Short (cond t x y)) p (λ e. q)
+    go : (o : Opening) → sound o (table kind) ≡ true → Short (openBy o (taggedValue (table kind) vs))
+    go opensNone s = tt
+    go opensModel s = tt
+    go (opensCard fascn expiry) s = tt
+    go (opensPolicy tag) s = tt
+    go (opensIssuer tag) s = value-takes today tag (table kind) vs a 15 s
+    go (opensHolder tag) s = tt
 
 -- ---- the whole
 

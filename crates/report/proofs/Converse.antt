@@ -1,17 +1,18 @@
 -- Demand 3, converse: two conforming containers with equal reports have the same kind, date, tags, lengths and open values. This shuts out "one
 -- printing a constant report". Assumes nothing.
-use Prim.Native.Nat.{ℕ, zero, suc, _+_, _^_, _≤_, _<_}
+use Prim.Native.Nat.{ℕ, suc, _^_, _≤_, _<_}
 use mathlib.Core.Logic.{inl, inr}
 use mathlib.Core.Path.{_≡_, refl, sym, ap, ap₂, _∙_}
-use mathlib.Core.Bool.{false, cond, true≢false}
+use mathlib.Core.Bool.{Bool, true, false, cond, not, _&&_, true≢false}
 use mathlib.Core.Option.{Option, none, some}
 use mathlib.Core.List.{List, [], _∷_, _++_}
 use native.Mathlib.Omega.{arith}
 use lib.Dec.{eqb}
 use lib.ListN.{length, getD}
-use borrow.Author.Tests.{eq-eqb}
+use borrow.Author.Tests.{eq-eqb, eqb-true, eqb-false, not-true}
+use Rattle.laws.specs.Tests.{allBelow, each, same}
 use Rattle.laws.specs.Bytes.{Bytes}
-use Rattle.laws.proofs.Cases.{which}
+use Rattle.laws.proofs.Cases.{which, and-true, either, at-each}
 use Rattle.laws.proofs.Layouts.{by-entries}
 use Rattle.lengths.specs.Length.{lengthBytes}
 use Rattle.fascn.specs.Fascn.{IsFascn}
@@ -21,42 +22,45 @@ use Rattle.dates.proofs.Dates.{small, eight-digits, text-number}
 use Rattle.cbeff.specs.Header.{fingers, face}
 use Rattle.cbeff.proofs.Exact.{fascn-inside}
 use Rattle.rules.specs.Rules.{Keeps}
-use Rattle.kinds.specs.declared.ValueRule.the-variants.{Expiry}
+use Rattle.kinds.specs.declared.ValueRule.{ValueRule}
+use Rattle.kinds.specs.declared.ValueRule.the-variants.{Fascn, Expiry, Fingers, Face}
 use Rattle.texts.specs.Text.{ascii, hexTag}
 use Rattle.texts.proofs.Reading.{Reads, and-then, and, given, so, behind, read, Without, ended-reads}
 use Rattle.texts.proofs.Numbers.{number-reads, fixed-reads, hex-reads, tag-reads, raw-reads}
 use Rattle.kinds.specs.Tables.{Table, table, IsKind}
-use Rattle.container.specs.Container.{Values, has, encode, container, Fits, Allowed, Conforms}
+use Rattle.container.specs.Container.{Values, has, encode, container, Allowed, Conforms}
 use Rattle.container.specs.Reading.{values}
 use Rattle.container.proofs.Rows.{Distinct}
 use Rattle.container.proofs.Tags.{Plain, short, double, Tags, tags, distinct}
 use Rattle.container.proofs.Exact.{bytes-back}
-use Rattle.report.specs.Open.{nothing, model, holder, card, policy, issuer, taggedValue, agencyOf, systemOf, openOf, shape}
-use Rattle.report.specs.Report.{kindName, number, digitsLine, cardPart, elementLine, elementLines, elementCount, elementsPart, openPart, reportText}
-use Rattle.report.proofs.Valued.{taggedRow, value-fits, row-long, value-bytes}
+use Rattle.report.specs.Open.{Open, nothing, model, holder, card, policy, issuer, Opening, opensNone, opensModel, opensCard, opensPolicy, opensIssuer, opensHolder, openBy, taggedValue, agencyOf, systemOf, inHeader, openOf, shape}
+use Rattle.report.specs.Report.{names, kindName, number, digitsLine, cardPart, elementLine, elementLines, elementCount, elementsPart, openPart, reportText}
+use Rattle.report.proofs.Valued.{taggedRow, value-bytes}
+use Rattle.report.proofs.Openings.{ruledBy, sized, value-keeps, value-takes, opening, sound, sound-kind}
 
 -- ---- CARD
 
--- a kind by the sum of its name's first two letters
-nth : ℕ → List ℕ → ℕ
-nth x [] = 0
-nth x (y ∷ ys) = cond (eqb x y) 0 (suc (nth x ys))
+-- the place of a name
+nth : List ℕ → List (List ℕ) → ℕ
+nth s [] = 0
+nth s (n ∷ ns) = cond (same s n) 0 (suc (nth s ns))
 
 kindOf : List ℕ → ℕ
-kindOf s = suc (nth (getD s 0 0 + getD s 1 0) (134 ∷ 139 ∷ 141 ∷ 162 ∷ 152 ∷ 143 ∷ []))
+kindOf s = nth s ([] ∷ names)
+
+without : (mark : ℕ) (s : List ℕ) → each (λ x. not (eqb x mark)) s ≡ true → Without mark s
+without mark [] e = tt
+without mark (x ∷ s) e = let c = and-true _ _ e in (eqb-false x mark (not-true _ (c .0)), without mark s (c .1))
 
 -- a name says its kind, and holds no line end
+told : (k : ℕ) → Bool
+told k = eqb (kindOf (kindName k)) k && each (λ x. not (eqb x 10)) (kindName k)
+
 named : (k : ℕ) → IsKind k → (kindOf (kindName k) ≡ k) × Without 10 (kindName k)
-unfolding kindOf nth
-named zero i = absurd (omega arith)
-named (suc zero) i = (refl, omega arith)
-named (suc (suc zero)) i = (refl, omega arith)
-named (suc (suc (suc zero))) i = (refl, omega arith)
-named (suc (suc (suc (suc zero)))) i = (refl, omega arith)
-named (suc (suc (suc (suc (suc zero))))) i = (refl, omega arith)
-named (suc (suc (suc (suc (suc (suc zero)))))) i = (refl, omega arith)
-named (suc (suc (suc (suc (suc (suc (suc zero))))))) i = (refl, omega arith)
-named (suc (suc (suc (suc (suc (suc (suc (suc k)))))))) i = absurd (omega arith)
+unfolding kindOf nth told allBelow
+named k i =
+    let c = and-true (eqb (kindOf (kindName k)) k) _ (at-each told (length ([] ∷ names)) refl k (omega arith)) in
+    (eqb-true _ _ (c .0), without 10 (kindName k) (c .1))
 
 kind-reads : (k l : ℕ) → IsKind k → IsKind l → Reads (kindName k ++ 10 ∷ []) (kindName l ++ 10 ∷ []) (k ≡ l)
 kind-reads k l i j =
@@ -162,7 +166,8 @@ record Side (k t : ℕ) (vs : Values) : Type 0 where
   date : t < 10 ^ 8
   allowed : Allowed t (table k) vs
   bytes : (tag : ℕ) → Bytes (taggedValue (table k) vs tag)
-  fits : (tag : ℕ) → taggedRow (table k) tag .optional ≡ false → Fits t (taggedRow (table k) tag) (taggedValue (table k) vs tag)
+  keeps : (tag : ℕ) (rule : ValueRule) → ruledBy rule (taggedRow (table k) tag) ≡ true → Keeps rule t (taggedValue (table k) vs tag)
+  takes : (tag n : ℕ) → sized n (taggedRow (table k) tag) ≡ true → length (taggedValue (table k) vs tag) ≡ n
 
 side : (k t : ℕ) (vs : Values) (c : List ℕ) → Bytes c → Conforms k t vs c → Side k t vs
 side k t vs c b h =
@@ -174,31 +179,34 @@ side k t vs c b h =
       date = rw e (small x .2);
       allowed = h .allowed;
       bytes = λ tag. value-bytes tag (table k) vs (bytes-back (lengthBytes (length rows)) rows (bc .1));
-      fits = λ tag o. value-fits t tag (table k) vs o (h .allowed);
+      keeps = λ tag rule e. value-keeps t tag (table k) vs (h .allowed) rule e;
+      takes = λ tag n e. value-takes t tag (table k) vs (h .allowed) n e;
     }
 
 expiry-small : (t : ℕ) (v : List ℕ) → Keeps Expiry t v → textNumber v < 10 ^ 8
 expiry-small t v (n, r, w) = rw (text-number v n r) (eight-digits v n r)
 
-open-reads : (k t u : ℕ) (vs ws : Values) → Side k t vs → Side k u ws → Reads (openPart (openOf k vs)) (openPart (openOf k ws)) (openOf k vs ≡ openOf k ws)
-open-reads zero t u vs ws a b = absurd (omega (arith, a .kind .0))
-open-reads (suc zero) t u vs ws a b = so (λ z. refl) (given (openPart model))
-open-reads (suc (suc zero)) t u vs ws a b =
-    card-open-reads _ _ _ _ _ _ (fascn-small _ (a .fits 0x30 refl .rule)) (fascn-small _ (b .fits 0x30 refl .rule))
-    (expiry-small t _ (a .fits 0x35 refl .rule)) (expiry-small u _ (b .fits 0x35 refl .rule))
-open-reads (suc (suc (suc zero))) t u vs ws a b =
-    policy-reads _ _ (a .bytes 0x5F2F) (b .bytes 0x5F2F) (row-long 2 _ (a .fits 0x5F2F refl .long)) (row-long 2 _ (b .fits 0x5F2F refl .long))
-open-reads (suc (suc (suc (suc zero)))) t u vs ws a b = issuer-reads _ _ (row-long 15 _ (a .fits 0x06 refl .long)) (row-long 15 _ (b .fits 0x06 refl .long))
-open-reads (suc (suc (suc (suc (suc zero))))) t u vs ws a b = so (λ z. refl) (given (openPart nothing))
-open-reads (suc (suc (suc (suc (suc (suc zero)))))) t u vs ws a b =
-    holder-reads _ _ _ _
-    (fascn-small _ (fascn-inside fingers _ (a .bytes 0xBC) (a .fits 0xBC refl .rule)))
-    (fascn-small _ (fascn-inside fingers _ (b .bytes 0xBC) (b .fits 0xBC refl .rule)))
-open-reads (suc (suc (suc (suc (suc (suc (suc zero))))))) t u vs ws a b =
-    holder-reads _ _ _ _
-    (fascn-small _ (fascn-inside face _ (a .bytes 0xBC) (a .fits 0xBC refl .rule)))
-    (fascn-small _ (fascn-inside face _ (b .bytes 0xBC) (b .fits 0xBC refl .rule)))
-open-reads (suc (suc (suc (suc (suc (suc (suc (suc k)))))))) t u vs ws a b = absurd (omega (arith, a .kind .1))
+-- a biometric record has a FASC-N in its header
+inside : (k t tag : ℕ) (vs : Values) → Side k t vs → sound (opensHolder tag) (table k) ≡ true → IsFascn (inHeader (taggedValue (table k) vs tag))
+inside k t tag vs a =
+    either (ruledBy Fingers (taggedRow (table k) tag)) (ruledBy Face (taggedRow (table k) tag)) (λ e. fascn-inside fingers _ (a .bytes tag) (a .keeps tag Fingers e))
+    (λ e. fascn-inside face _ (a .bytes tag) (a .keeps tag Face e))
+
+module _ (k t u : ℕ) (vs ws : Values) (a : Side k t vs) (b : Side k u ws) where
+  opening-reads : (o : Opening) → sound o (table k) ≡ true
+      → let x : Open = openBy o (taggedValue (table k) vs) in let y : Open = openBy o (taggedValue (table k) ws) in Reads (openPart x) (openPart y) (x ≡ y)
+  opening-reads opensNone s = so (λ z. refl) (given (openPart nothing))
+  opening-reads opensModel s = so (λ z. refl) (given (openPart model))
+  opening-reads (opensCard fascn expiry) s =
+      let c = and-true (ruledBy Fascn (taggedRow (table k) fascn)) _ s in
+      card-open-reads _ _ _ _ _ _ (fascn-small _ (a .keeps fascn Fascn (c .0))) (fascn-small _ (b .keeps fascn Fascn (c .0)))
+      (expiry-small t _ (a .keeps expiry Expiry (c .1))) (expiry-small u _ (b .keeps expiry Expiry (c .1)))
+  opening-reads (opensPolicy tag) s = policy-reads _ _ (a .bytes tag) (b .bytes tag) (a .takes tag 2 s) (b .takes tag 2 s)
+  opening-reads (opensIssuer tag) s = issuer-reads _ _ (a .takes tag 15 s) (b .takes tag 15 s)
+  opening-reads (opensHolder tag) s = holder-reads _ _ _ _ (fascn-small _ (inside k t tag vs a s)) (fascn-small _ (inside k u tag ws b s))
+
+  open-reads : Reads (openPart (openOf k vs)) (openPart (openOf k ws)) (openOf k vs ≡ openOf k ws)
+  open-reads = opening-reads (opening k) (sound-kind k)
 
 -- ---- the whole
 

@@ -1,4 +1,5 @@
 pub mod Valued
+pub mod Openings
 pub mod Bound
 pub mod Lines
 pub mod Opens

@@ -9,16 +9,20 @@ use borrow.Author.Tests.{ne-eqb}
 use Rattle.fascn.specs.Reading.{decoded}
 use Rattle.dates.specs.Date.{dateOf, textNumber}
 use Rattle.dates.proofs.Dates.{text-exact, text-number}
-use Rattle.kinds.specs.Tables.{Table, table, chuid}
+use Rattle.kinds.specs.Tables.{Table, table}
 use Rattle.container.specs.Container.{Values, Conforms}
 use Rattle.container.specs.Places.{Part, partOf}
 use Rattle.container.specs.declared.Found.{Found}
 use Rattle.container.specs.declared.Found.the-variants.{At, Absent}
 use Rattle.views.specs.Lies.{Lies}
-use Rattle.report.specs.Open.{holder, card, policy, issuer, taggedValue, agencyOf, systemOf, inHeader, openOf}
+use Rattle.report.specs.Open.{Opening, opensCard, opensPolicy, opensIssuer, opensHolder, openBy, holder, card, policy, issuer, taggedValue, agencyOf, systemOf, inHeader, openOf}
 use Rattle.report.specs.Report.{openPart}
 use Rattle.report.specs.Writers.{dayNumber}
-use Rattle.report.proofs.Valued.{partBytes, part-value, value-fits}
+use Rattle.report.proofs.Valued.{partBytes, part-value, taggedRow}
+use Rattle.report.proofs.Openings.{value-keeps, ruledBy, opening, sound, sound-kind}
+use Rattle.laws.proofs.Cases.{and-true}
+use mathlib.Core.Bool.{true}
+use Rattle.kinds.specs.declared.ValueRule.the-variants.{Fascn, Expiry}
 
 -- ---- the value that the walk finds
 
@@ -44,24 +48,27 @@ no-header v h =
     let l : length (inHeader v) ≡ 25 → ⊥ = λ e. omega (arith, length-take 25 (drop 59 v), length-drop 59 v) in
     rw (ne-eqb _ _ l)
 
--- ---- what is open, kind by kind: the text of the values that were found is that of the open values
+-- ---- what is open: the text of the values that were found is that of the open values
 
 module _ (kind : ℕ) (vs : Values) where
-  pub chuid-open : {today : ℕ} {c f e : List ℕ} → kind ≡ 2 → Conforms kind today vs c → f ≡ taggedValue (table kind) vs 0x30 → e ≡ taggedValue (table kind) vs 0x35
-      → openPart (card (agencyOf f) (systemOf f) (dayNumber (dateOf e))) ≡ openPart (openOf kind vs)
-  chuid-open {today} k h p q =
-      let v = taggedValue chuid vs 0x35 in
-      let (n, r, w) = value-fits today 0x35 chuid vs refl (rw k at (h .allowed)) .rule in
+  pub is-open : {o : Opening} → opening kind ≡ o → openPart (openBy o (taggedValue (table kind) vs)) ≡ openPart (openOf kind vs)
+  is-open e = ap (λ (o : Opening). openPart (openBy o (taggedValue (table kind) vs))) (sym e)
+
+  pub card-open : {today t u : ℕ} {c f e : List ℕ} → opening kind ≡ opensCard t u → Conforms kind today vs c → f ≡ taggedValue (table kind) vs t
+      → e ≡ taggedValue (table kind) vs u → openPart (card (agencyOf f) (systemOf f) (dayNumber (dateOf e))) ≡ openPart (openOf kind vs)
+  card-open {today} {t} {u} o h p q =
+      let v = taggedValue (table kind) vs u in
+      let s : sound (opensCard t u) (table kind) ≡ true = sym (ap (λ (o : Opening). sound o (table kind)) o) ∙ sound-kind kind in
+      let (n, r, w) = value-keeps today u (table kind) vs (h .allowed) Expiry (and-true (ruledBy Fascn (taggedRow (table kind) t)) _ s .1) in
       let d : dayNumber (dateOf v) ≡ textNumber v = ap dayNumber (text-exact v n .1 r) ∙ sym (text-number v n r) in
-      rw (p, q, k, d)
+      rw (p, q, d) (is-open o)
 
-  module _ {v : List ℕ} where
-    pub discovery-open : kind ≡ 3 → v ≡ taggedValue (table kind) vs 0x5F2F → openPart (policy v) ≡ openPart (openOf kind vs)
-    discovery-open k p = rw (p, k)
+  module _ {v : List ℕ} {t : ℕ} (p : v ≡ taggedValue (table kind) vs t) where
+    pub policy-open : opening kind ≡ opensPolicy t → openPart (policy v) ≡ openPart (openOf kind vs)
+    policy-open o = ap (λ (w : List ℕ). openPart (policy w)) p ∙ is-open o
 
-    pub printed-open : kind ≡ 4 → v ≡ taggedValue (table kind) vs 0x06 → openPart (issuer v) ≡ openPart (openOf kind vs)
-    printed-open k p = rw (p, k)
+    pub issuer-open : opening kind ≡ opensIssuer t → openPart (issuer v) ≡ openPart (openOf kind vs)
+    issuer-open o = ap (λ (w : List ℕ). openPart (issuer w)) p ∙ is-open o
 
-    pub biometric-open : (kind ≡ 1 → ⊥) → (kind ≡ 2 → ⊥) → (kind ≡ 3 → ⊥) → (kind ≡ 4 → ⊥) → (kind ≡ 5 → ⊥) → v ≡ taggedValue (table kind) vs 0xBC
-        → openPart (holder (agencyOf (inHeader v)) (systemOf (inHeader v))) ≡ openPart (openOf kind vs)
-    biometric-open n1 n2 n3 n4 n5 p = rw (p, ne-eqb kind 1 n1, ne-eqb kind 2 n2, ne-eqb kind 3 n3, ne-eqb kind 4 n4, ne-eqb kind 5 n5)
+    pub holder-open : opening kind ≡ opensHolder t → openPart (holder (agencyOf (inHeader v)) (systemOf (inHeader v))) ≡ openPart (openOf kind vs)
+    holder-open o = ap (λ (w : List ℕ). openPart (holder (agencyOf (inHeader w)) (systemOf (inHeader w)))) p ∙ is-open o

@@ -5,13 +5,12 @@ use mathlib.Core.Bool.{false, cond, true≢false}
 use mathlib.Core.Logic.{inl, inr}
 use mathlib.Core.Option.{Option, none, some}
 use mathlib.Core.List.{List, [], _∷_, _++_}
-use native.Mathlib.Omega.{arith}
 use lib.Dec.{eqb}
 use lib.ListN.{length}
 use Rattle.laws.specs.Bytes.{Bytes}
 use Rattle.laws.proofs.Cases.{test, which}
 use Rattle.lengths.specs.Length.{lengthBytes}
-use Rattle.kinds.specs.Tables.{Entry, Table, may, any, exactly, Permitted}
+use Rattle.kinds.specs.Tables.{Entry, Table, may, any}
 use Rattle.kinds.specs.declared.ValueRule.the-variants.{Free}
 use Rattle.container.specs.Container.{Values, tagBytes, encode, Fits, Allowed}
 use Rattle.container.specs.Places.{Part, past, partOf}
@@ -59,11 +58,6 @@ value-fits today tag (r ∷ rs) (some v ∷ vs) o a =
       | inl q ↦ rw q (a .0)
       | inr q ↦ rw q (value-fits today tag rs vs (rw q at o) (a .1))
     ]
-
--- a row that takes n bytes and nothing else
-pub row-long : (n k : ℕ) → Permitted (exactly n) k → k ≡ n
-row-long n k (inl p) = omega arith
-row-long n k (inr p) = absurd (true≢false (sym (p .0)))
 
 -- ---- of a container of bytes
 

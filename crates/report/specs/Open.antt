@@ -5,7 +5,7 @@ use mathlib.Core.Bool.{cond}
 use mathlib.Core.Option.{Option, none, some}
 use mathlib.Core.List.{List, [], _∷_}
 use lib.Dec.{eqb}
-use lib.ListN.{length, take, drop}
+use lib.ListN.{length, getD, take, drop}
 use Rattle.fascn.specs.Reading.{decoded}
 use Rattle.dates.specs.Date.{textNumber}
 use Rattle.kinds.specs.Tables.{Table, table}
@@ -42,17 +42,32 @@ systemOf f = decoded f .numbers .system
 abbrev pub inHeader : List ℕ → List ℕ
 inHeader v = take 25 (drop 59 v)
 
--- the open values, by the tags that 01 gives them in "Container form": the CHUID's FASC-N is 30 and its expiry 35, the policy of DISCOVERY 5F2F, the
--- issuer of PRINTED 06, the record of FINGERS and FACE BC
+-- what is open of a kind, and the tags of the values that it is read off
+pub data Opening : Type 0 where
+  opensNone : Opening  -- "none"
+  opensModel : Opening  -- "`model 10`"
+  opensCard : ℕ → ℕ → Opening  -- "agency, system, expires": of a FASC-N, and an expiry
+  opensPolicy : ℕ → Opening  -- "`policy` with four hex digits"
+  opensIssuer : ℕ → Opening  -- "`issuer`"
+  opensHolder : ℕ → Opening  -- "agency, system": of the FASC-N in a record
+
+-- given the value of each tag
+abbrev pub openBy : Opening → (ℕ → List ℕ) → Open
+openBy opensNone value = nothing
+openBy opensModel value = model
+openBy (opensCard fascn expiry) value = card (agencyOf (value fascn)) (systemOf (value fascn)) (textNumber (value expiry))
+openBy (opensPolicy tag) value = policy (value tag)
+openBy (opensIssuer tag) value = issuer (value tag)
+openBy (opensHolder tag) value = holder (agencyOf (inHeader (value tag))) (systemOf (inHeader (value tag)))
+
+-- in the order of the kinds, by the tags that 01 gives in "Container form": CCC; CHUID, whose FASC-N is 30 and whose expiry 35; DISCOVERY, whose policy
+-- is 5F2F; PRINTED, "`issuer` and tag 06"; SECURITY; FINGERS and FACE, whose record is BC
+abbrev pub openings : List Opening
+openings = opensModel ∷ opensCard 0x30 0x35 ∷ opensPolicy 0x5F2F ∷ opensIssuer 0x06 ∷ opensNone ∷ opensHolder 0xBC ∷ opensHolder 0xBC ∷ []
+
+-- of a number that is no kind nothing is open
 abbrev pub openOf : ℕ → Values → Open
-openOf kind vs =
-    let value : ℕ → List ℕ = taggedValue (table kind) vs in
-    cond (eqb kind 1) model  -- "CCC `model 10`"
-    (cond (eqb kind 2) (card (agencyOf (value 0x30)) (systemOf (value 0x30)) (textNumber (value 0x35)))  -- "CHUID agency, system, expires"
-    (cond (eqb kind 3) (policy (value 0x5F2F))  -- "DISCOVERY `policy`"
-    (cond (eqb kind 4) (issuer (value 0x06))  -- "PRINTED `issuer` and tag 06"
-    (cond (eqb kind 5) nothing  -- "SECURITY none"
-    (holder (agencyOf (inHeader (value 0xBC))) (systemOf (inHeader (value 0xBC))))))))  -- "FINGERS and FACE agency, system"
+openOf kind vs = openBy (getD (opensNone ∷ openings) kind opensNone) (taggedValue (table kind) vs)
 
 -- which rows are there, and how long their values are: "tags and lengths are open"
 abbrev pub shape : Values → List (Option ℕ)

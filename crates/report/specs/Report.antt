@@ -1,10 +1,8 @@
 -- 01: "Report sections: CARD (kind, bytes in the container, today, verdict number and place), ELEMENTS (tag in hex, length), OPEN (named values), each
 -- after its count of lines. A broken rule gives a report with ELEMENTS 0 and OPEN 0."
 use Prim.Native.Nat.{ℕ, suc}
-use mathlib.Core.Bool.{cond}
 use mathlib.Core.Option.{none, some}
 use mathlib.Core.List.{List, [], _∷_, _++_}
-use lib.Dec.{eqb}
 use lib.ListN.{length, getD}
 use Rattle.texts.specs.Text.{ascii, fixed, decimal, hex2, hexTag}
 use Rattle.verdicts.specs.Verdicts.{numberOf}
@@ -14,14 +12,12 @@ use Rattle.container.specs.Reading.{Parsed, values, fault}
 use Rattle.report.specs.Open.{Open, nothing, model, holder, card, policy, issuer, openOf}
 
 -- "1 CCC, 2 CHUID, 3 DISCOVERY, 4 PRINTED, 5 SECURITY, 6 FINGERS, 7 FACE"
+abbrev pub names : List (List ℕ)
+names = ascii "CCC" ∷ ascii "CHUID" ∷ ascii "DISCOVERY" ∷ ascii "PRINTED" ∷ ascii "SECURITY" ∷ ascii "FINGERS" ∷ ascii "FACE" ∷ []
+
+-- a number that is no kind has no name
 abbrev pub kindName : ℕ → List ℕ
-kindName kind =
-    cond (eqb kind 1) (ascii "CCC")
-    (cond (eqb kind 2) (ascii "CHUID")
-    (cond (eqb kind 3) (ascii "DISCOVERY")
-    (cond (eqb kind 4) (ascii "PRINTED")
-    (cond (eqb kind 5) (ascii "SECURITY")
-    (cond (eqb kind 6) (ascii "FINGERS") (ascii "FACE"))))))
+kindName kind = getD ([] ∷ names) kind []
 
 -- a number without leading zeros, and the mark that ends it; a number of w digits and a line end
 abbrev pub number : ℕ → ℕ → List ℕ

@@ -63,7 +63,8 @@ fn put_kind(kind: u64, out: &mut [u8]) -> usize
         4 => room::put_all(b"PRINTED\n", out),
         5 => room::put_all(b"SECURITY\n", out),
         6 => room::put_all(b"FINGERS\n", out),
-        _ => room::put_all(b"FACE\n", out),
+        7 => room::put_all(b"FACE\n", out),
+        _ => room::put_all(b"\n", out),
     }
 }
 
@@ -233,7 +234,9 @@ fn put_open(kind: u64, c: &[u8], out: &mut [u8]) -> usize
         3 => put_policy(value(kind, 0x5F2F, c), out),
         4 => put_issuer(value(kind, 0x06, c), out),
         5 => room::put_all(b"OPEN 0\n", out),
-        _ => put_biometric(value(kind, 0xBC, c), out),
+        6 => put_biometric(value(kind, 0xBC, c), out),
+        7 => put_biometric(value(kind, 0xBC, c), out),
+        _ => room::put_all(b"OPEN 0\n", out),
     }
 }
 

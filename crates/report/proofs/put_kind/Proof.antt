@@ -1,15 +1,10 @@
 -- `report::put_kind` meets its contract: an arm for each name. Assumes nothing.
-use mathlib.Core.Path.{_≡_}
-use Prim.Native.Nat.{ℕ}
-use borrow.Author.Tests.{ne-eqb}
-use Rattle.report.specs.Report.{kindName}
+use mathlib.Core.List.{[]}
+use Rattle.kinds.proofs.Arms.{none-listed}
+use Rattle.report.specs.Report.{names}
 use borrow.Author.Needs.{needs}
 use Rattle.report.proofs.put_kind.Statement.{statement}
 use Rattle.report.proofs.put_kind.Tie as tie
-
--- a number that is none of the six
-other : (k : ℕ) → (k ≡ 1 → ⊥) → (k ≡ 2 → ⊥) → (k ≡ 3 → ⊥) → (k ≡ 4 → ⊥) → (k ≡ 5 → ⊥) → (k ≡ 6 → ⊥) → kindName k ≡ kindName 7
-other k a b c d e f = rw (ne-eqb k 1 a, ne-eqb k 2 b, ne-eqb k 3 c, ne-eqb k 4 d, ne-eqb k 5 e, ne-eqb k 6 f)
 
 returns : tie.Need-returns
 returns c = let p = c .before .before in rw (p .before .before .before .match .keys1) (p .put-all .ensures)
@@ -30,15 +25,17 @@ returns-6 : tie.Need-returns-6
 returns-6 c = let p = c .before .before in rw (p .before .before .before .match .keys6) (p .put-all6 .ensures)
 
 returns-7 : tie.Need-returns-7
-returns-7 c =
-    let p = c .before .before in
-    let none = p .before .before .before .match .rest in
-    rw (other _ (none .0 .0 .0 .0 .0 .1) (none .0 .0 .0 .0 .1) (none .0 .0 .0 .1) (none .0 .0 .1) (none .0 .1) (none .1)) (p .put-all7 .ensures)
+returns-7 c = let p = c .before .before in rw (p .before .before .before .match .keys7) (p .put-all7 .ensures)
+
+returns-8 : tie.Need-returns-8
+returns-8 c = let p = c .before .before in rw (← none-listed names [] _ (p .before .before .before .match .rest)) (p .put-all8 .ensures)
 
 pub put-kind-spec : {M : Type 1} → statement M
 put-kind-spec =
     tie.close
     (tie.spec
+    (λ c. search needs)
+    (λ c κs. search needs)
     (λ c. search needs)
     (λ c κs. search needs)
     (λ c. search needs)
@@ -66,4 +63,6 @@ put-kind-spec =
     (λ c. search needs)
     returns-6
     (λ c. search needs)
-    returns-7)
+    returns-7
+    (λ c. search needs)
+    returns-8)
