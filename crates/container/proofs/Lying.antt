@@ -2,7 +2,6 @@
 use Prim.Native.Nat.{ℕ, zero, suc, _+_, _-_, _<_, _≤_}
 use mathlib.Core.Logic.{inl, inr}
 use mathlib.Core.Path.{_≡_, refl, sym, ap, ap₂, _∙_}
-use mathlib.Core.Bool.{cond}
 use mathlib.Core.Option.{Option, none, some}
 use mathlib.Core.List.{List, [], _∷_, _++_}
 use native.Mathlib.Nat.{add-sub-cancel-left}
@@ -14,16 +13,14 @@ use lib.Seq.{drop-drop, drop-append-seam, take-append-seam, getD-set-same, getD-
 use borrow.Author.Tests.{eqb-true, ne-eqb}
 use Rattle.laws.specs.Bytes.{Bytes}
 use Rattle.laws.specs.Room.{zeros}
-use Rattle.laws.specs.Layout.{part}
 use Rattle.laws.proofs.Bases.{below-drop}
 use Rattle.laws.proofs.Cases.{which}
 use Rattle.lengths.specs.Length.{lengthBytes, readLength, Spelt}
 use Rattle.lengths.proofs.Writing.{some-bytes}
-use Rattle.lengths.proofs.Spellings.{inside}
 use Rattle.kinds.specs.Tables.{Entry, Table, table}
 use Rattle.verdicts.specs.declared.Finding.{Finding}
 use Rattle.verdicts.specs.declared.Outcome.the-variants.{Fine, Broken}
-use Rattle.container.specs.Container.{Values, tagBytes, long, tagHere, outerTag, Allowed}
+use Rattle.container.specs.Container.{Values, tagBytes, long, tagHere, outerTag, Allowed, largest}
 use Rattle.container.specs.Reading.{Parsed, values, fault, Part, bytesOf, alone, prepend, Element, whole, broken, element, follow, parse, inner, outer, located, parsed, outcomeOf}
 use Rattle.container.specs.Map.{laid, noted, mapOf, rowValue, shown}
 use Rattle.container.specs.declared.Map.{Map}
@@ -272,6 +269,9 @@ module _ (kind today : ℕ) (c : List ℕ) {m : Map} (e : m ≡ mapOf (located k
       go : (p : Parsed Part) → located kind today c ≡ p → outcomeOf (alone p) ≡ Fine → (ps : List (Option Part)) × (located kind today c ≡ values ps)
       go (values ps) q z = (ps, q)
       go (fault f) q z = let z : _≡_ {A = ℕ} 0 1 = cc in absurd (omega arith)
+
+  pub fine-size : m .outcome ≡ Fine → length c ≤ largest
+  fine-size o = let (ps, q) = told-fine o in in-outer-values kind today c ps q .2
 
   -- and their values are what the map shows
   pub read-fine : Bytes c → m .outcome ≡ Fine → parsed kind today c ≡ values (mapValues kind m c)

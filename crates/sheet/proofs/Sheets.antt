@@ -1,9 +1,8 @@
 -- Sheets: how long they are, that a sheet tells its values, and that the values of a container that conforms have one. Assumes nothing.
-use Prim.Native.Nat.{ℕ, suc, _+_, _-_, _/_, _%_, _≤_, _<_}
+use Prim.Native.Nat.{ℕ, _+_, _-_, _/_, _%_, _≤_, _<_}
 use mathlib.Core.Path.{_≡_, refl, sym, ap, ap₂, _∙_}
 use mathlib.Core.Option.{Option, none, some}
-use mathlib.Core.List.{List, [], _∷_, _++_, append-assoc, append-nil}
-use native.Mathlib.Numerals.{add-one}
+use mathlib.Core.List.{List, [], _∷_, _++_}
 use native.Mathlib.Omega.{arith}
 use borrow.Author.Tests.{ne-eqb}
 use lib.ListN.{length, getD, take, drop, length-append}
@@ -47,6 +46,18 @@ module _ (starts ends c : List ℕ) (n i : ℕ) (h : i < n) where
   pub value-next : (getD ends i 0 ≡ 0 → ⊥) → sheetOf (shown starts ends c (n - i) i) ≡ section (some (part c (getD starts i 0) (getD ends i 0 - getD starts i 0))) ++ sheetOf rest
   unfolding sheetOf
   value-next e = rw (shown-next starts ends c n i h, ne-eqb _ _ e)
+
+  pub value-length : (getD ends i 0 ≡ 0 → ⊥) → getD starts i 0 ≤ getD ends i 0 → getD ends i 0 ≤ length c
+      → length (sheetOf (shown starts ends c (n - i) i)) ≡ 2 + (getD ends i 0 - getD starts i 0) + length (sheetOf rest)
+  value-length e o w =
+      let v = part c (getD starts i 0) (getD ends i 0 - getD starts i 0) in
+      let l : length v ≡ getD ends i 0 - getD starts i 0 = part-long c (getD starts i 0) (getD ends i 0 - getD starts i 0) (omega arith) in
+      omega (arith, ap length (value-next e), length-append (section (some v)) (sheetOf rest), section-length (some v), l)
+
+-- no row is left, or all are
+pub none-left : (starts ends c : List ℕ) (n i : ℕ) → n ≤ i → sheetOf (shown starts ends c (n - i) i) ≡ []
+unfolding sheetOf shown
+none-left starts ends c n i h = let z : n - i ≡ 0 = omega arith in rw z
 
 -- ---- a sheet tells its values
 

@@ -2,10 +2,12 @@
 // bytes."
 ghost use mathlib.Core.Path.{_≡_};
 ghost use mathlib.Core.Option.{some};
+ghost use Prim.Native.Nat.{_≤_};
 ghost use lib.ListN.{length};
 ghost use Rattle.laws.specs.Room.{laid, Put};
 ghost use Rattle.verdicts.specs.Output.{Leaves};
 ghost use Rattle.kinds.specs.Tables.{table};
+ghost use Rattle.container.specs.Container.{largest};
 ghost use Rattle.container.specs.Map.{Inside, shown};
 ghost use Rattle.sheet.specs.Sheet.{count, section, sheetOf};
 ghost use Rattle.sheet.specs.Calls.{readOutput};
@@ -33,7 +35,7 @@ fn put_section(value: &[u8], out: &mut [u8]) -> usize
 // The sheet of the values that the map shows, a section for each row, as far as the room goes; and how long it is as a whole:
 // two bytes for each row, and the values.
 fn put_sheet(kind: u64, c: &[u8], map: Map, out: &mut [u8]) -> usize
-    requires { ⌜ Inside (map .from) (map .to) (length (now c)) ⌝ }
+    requires { ⌜ Inside (map .from) (map .to) (length (now c)) × (length (now c) ≤ largest) ⌝ }
     ensures { λ r. ⌜ r ≡ length (sheetOf (shown (map .from) (map .to) (now (c .entry)) (length (table kind)) 0)) ⌝ }
     ensures { λ r. ⌜ now (out .exit) ≡ laid (sheetOf (shown (map .from) (map .to) (now (c .entry)) (length (table kind)) 0)) (now (out .entry)) ⌝ }
 {

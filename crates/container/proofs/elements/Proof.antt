@@ -1,6 +1,6 @@
 -- `container::elements` meets its contract. The loop's invariant: the map from here, over what is noted, is the map of the whole. Assumes nothing.
-use Prim.Native.Nat.{ℕ, _≤_, _-_}
-use mathlib.Core.Path.{_≡_, refl, sym, ap, _∙_}
+use Prim.Native.Nat.{_≤_, _-_}
+use mathlib.Core.Path.{_≡_, refl, _∙_}
 use native.Mathlib.Omega.{arith}
 use lib.ListN.{length, length-set}
 use borrow.Author.Needs.{needs}
@@ -48,8 +48,8 @@ returns-2 c =
     let l = t .before .before .before in
     let a = l .before .before .args in (
       c .lost2 .ensures
-      ∙ rw (c .before .found .ensures)
-      (cut-off (a .kind) (a .today) (a .c .now) _ (l .loop .done) (l .loop .from) (l .loop .to) (t .before .before .loop-test .left) (t .before .last-row .ensures) (omega arith) ∙ l .loop .inv .3),
+          ∙ rw (c .before .found .ensures)
+          (cut-off (a .kind) (a .today) (a .c .now) _ (l .loop .done) (l .loop .from) (l .loop .to) (t .before .before .loop-test .left) (t .before .last-row .ensures) (omega arith) ∙ l .loop .inv .3),
       rw (c .lost2 .ensures) (inside-first _),
     )
 
