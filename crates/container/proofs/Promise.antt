@@ -112,6 +112,15 @@ conforms-parsed kind today c b vs h =
     rw (kind-exact kind .1 (h .kind-is), date-exact today .1 (h .date-is), le-leb _ _ (h .size-is), h .written, eq-eqb (outerTag kind) (outerTag kind) refl, reads-back (length body) body f, eq-eqb _ _ l, drop-append-seam head body)
     (complete today (table kind) (table kind) (1 + length head) vs (tags kind) (distinct kind) (h .allowed) bb f)
 
+-- with their places
+pub conforms-located : (kind today : ℕ) (c : List ℕ) → Bytes c → (vs : Values) → Conforms kind today vs c → (ps : List (Option Part)) × (located kind today c ≡ values ps) × (bytesOf ps ≡ vs)
+unfolding parsed
+conforms-located kind today c b vs h = go (located kind today c) refl (conforms-parsed kind today c b vs h)
+  where
+    go : (p : Parsed Part) → located kind today c ≡ p → alone p ≡ values vs → (ps : List (Option Part)) × (located kind today c ≡ values ps) × (bytesOf ps ≡ vs)
+    go (values ps) q z = (ps, q, cc)
+    go (fault f) q z = absurd (no-values z)
+
 -- ---- the theorems
 
 -- bytes come to values exactly where they are the container of these values

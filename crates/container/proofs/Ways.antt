@@ -18,7 +18,7 @@ use Rattle.dates.specs.Date.{isDate}
 use Rattle.kinds.specs.Tables.{isKind}
 use Rattle.verdicts.specs.Verdicts.{found}
 use Rattle.verdicts.specs.declared.Fault.the-variants.{UnknownKind, NoDate, LargeContainer, OuterTag, LengthForm, Overrun}
-use Rattle.container.specs.Container.{outerTag}
+use Rattle.container.specs.Container.{outerTag, largest}
 use Rattle.container.specs.Reading.{outer, located}
 use Rattle.container.specs.Map.{lost, noted, mapOf, mapFrom}
 
@@ -35,11 +35,11 @@ module _ (kind today : ℕ) (c : List ℕ) where
     bad-date d = rw (k, d)
 
     module _ (d : isDate today ≡ true) where
-      pub too-large : 32768 < length c → lost (found LargeContainer 0) ≡ mapOf (located kind today c)
+      pub too-large : largest < length c → lost (found LargeContainer 0) ≡ mapOf (located kind today c)
       unfolding located noted
       too-large l = rw (k, d, lt-leb _ _ l)
 
-      pub goes-in : length c ≤ 32768 → mapOf (outer kind today c) ≡ mapOf (located kind today c)
+      pub goes-in : length c ≤ largest → mapOf (outer kind today c) ≡ mapOf (located kind today c)
       unfolding located noted
       goes-in l = rw (k, d, le-leb _ _ l)
 

@@ -7,7 +7,7 @@ ghost use Rattle.laws.specs.Room.{zeros};
 ghost use Rattle.laws.specs.Layout.{part};
 ghost use Rattle.kinds.specs.Tables.{table, permits};
 ghost use Rattle.verdicts.specs.Verdicts.{found};
-ghost use Rattle.container.specs.Container.{long, tagHere, outerTag};
+ghost use Rattle.container.specs.Container.{long, tagHere, outerTag, largest};
 ghost use Rattle.container.specs.Reading.{element, outer, located, verdict};
 ghost use Rattle.container.specs.Map.{lost, mapOf, Inside, mapFrom, Steps, valueAt, lengthsOf};
 use kinds::Row;
@@ -104,18 +104,12 @@ pub fn tag_len(tag: u64) -> usize
     2
 }
 
-fn wide(x: u8) -> u64
-    ensures { λ r. ⌜ r ≡ x ⌝ }
-{
-    x as u64
-}
-
 // The tag at `at`: one byte, or 5F2F in kind 3.
 fn tag_at(kind: u64, c: &[u8], at: usize) -> u64
     requires { ⌜ at < length (now c) ⌝ }
     ensures { λ r. ⌜ r ≡ tagHere (table kind) (getD (now (c .entry)) at 0) (drop (at + 1) (now (c .entry))) ⌝ }
 {
-    let one = wide(c[at]);
+    let one = numbers::wide(c[at]);
     if kind != 3 {
         return one;
     }
@@ -157,7 +151,7 @@ fn element(kind: u64, today: u64, c: &[u8], at: usize, done: u64) -> Step
 
 // The elements from `start` on.
 fn elements(kind: u64, today: u64, c: &[u8], start: usize) -> Map
-    requires { ⌜ (start ≤ length (now c)) × (length (now c) ≤ 32768) ⌝ }
+    requires { ⌜ (start ≤ length (now c)) × (length (now c) ≤ largest) ⌝ }
     ensures { λ r. ⌜ r ≡ mapFrom kind today (now (c .entry)) start 0 (zeros 16) (zeros 16) ⌝ }
     ensures { λ r. ⌜ Inside (r .from) (r .to) (length (now (c .entry))) ⌝ }
 {
@@ -201,7 +195,7 @@ pub fn outer_tag(kind: u64) -> u8
 
 // The outer form: 10, 11, 12, each with place 0; then the elements.
 fn whole(kind: u64, today: u64, c: &[u8]) -> Map
-    requires { ⌜ length (now c) ≤ 32768 ⌝ }
+    requires { ⌜ length (now c) ≤ largest ⌝ }
     ensures { λ r. ⌜ r ≡ mapOf (outer kind today (now (c .entry))) ⌝ }
     ensures { λ r. ⌜ Inside (r .from) (r .to) (length (now (c .entry))) ⌝ }
 {

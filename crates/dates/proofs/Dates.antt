@@ -15,7 +15,7 @@ use Rattle.laws.proofs.Cases.{and-true, all-true, which}
 use Rattle.laws.proofs.Bases.{length-digits, below-digits, digits-append, value-digits, digits-read}
 use Rattle.dates.specs.declared.Date.the-variants.{Is, Not}
 use Rattle.dates.specs.Calendar.{Exists}
-use Rattle.dates.specs.Date.{dateNumber, IsDate, isDate, Reads, IsTextDate, isDigit, textNumber, dateOf}
+use Rattle.dates.specs.Date.{dateNumber, IsDate, isDate, IsTextOf, IsTextDate, isDigit, textNumber, dateOf}
 use Rattle.dates.proofs.Calendars.{exists-exact, days-most}
 
 -- ---- a date as a number of eight digits
@@ -96,12 +96,12 @@ text-is s n e h =
     )
 
 -- a date's bytes are its number's eight digits
-text-of : (s : List ℕ) (n : ℕ) → Reads s n → (s ≡ map (λ d. 48 + d) (digits 10 8 n)) × (n < 100000000)
+text-of : (s : List ℕ) (n : ℕ) → IsTextOf s n → (s ≡ map (λ d. 48 + d) (digits 10 8 n)) × (n < 100000000)
 text-of s n (y, m, d, x, e, f) =
     let k = small x in
     (e ∙ rw (f, digits-date y m d (k .0) (k .1)), rw f (k .2))
 
-reads-so : (s : List ℕ) → length s ≡ 8 → each isDigit s ≡ true → IsDate (textNumber s) → Reads s (textNumber s)
+reads-so : (s : List ℕ) → length s ≡ 8 → each isDigit s ≡ true → IsDate (textNumber s) → IsTextOf s (textNumber s)
 reads-so s l g (y, m, d, x, e) =
     let k = small x in
     (y, m, d, x, is-text s l g ∙ rw (e, digits-date y m d (k .0) (k .1)), e)
@@ -111,17 +111,17 @@ told true m n e = (refl, cc)
 told false m n e = let z : _≡_ {A = ℕ} 0 1 = cc in absurd (omega arith)
 
 -- these bytes are read as the date n exactly where they are its text
-pub text-exact : (s : List ℕ) (n : ℕ) → (dateOf s ≡ Is n) ↔ Reads s n
+pub text-exact : (s : List ℕ) (n : ℕ) → (dateOf s ≡ Is n) ↔ IsTextOf s n
 unfolding dateOf
 text-exact s n = (sound, complete)
   where
-    sound : dateOf s ≡ Is n → Reads s n
+    sound : dateOf s ≡ Is n → IsTextOf s n
     sound h =
         let t = told (eqb (length s) 8 && each isDigit s && isDate (textNumber s)) (textNumber s) n h in
         let p = all-true (eqb (length s) 8 ∷ each isDigit s ∷ isDate (textNumber s) ∷ []) (t .0) in
         rw (t .1) (reads-so s (eqb-true _ _ (p 0)) (p 1) (date-exact (textNumber s) .0 (p 2)))
 
-    complete : Reads s n → dateOf s ≡ Is n
+    complete : IsTextOf s n → dateOf s ≡ Is n
     complete r =
         let q = text-of s n r in
         let (l, g, v) = text-is s n (q .0) (q .1) in
@@ -144,19 +144,19 @@ text-not s = (sound, complete)
         ]
 
 -- one text for one number
-pub one-text : (s t : List ℕ) (n : ℕ) → Reads s n → Reads t n → s ≡ t
+pub one-text : (s t : List ℕ) (n : ℕ) → IsTextOf s n → IsTextOf t n → s ≡ t
 one-text s t n p q = text-of s n p .0 ∙ sym (text-of t n q .0)
 
 -- one number for one text
-pub one-number : (s : List ℕ) (m n : ℕ) → Reads s m → Reads s n → m ≡ n
+pub one-number : (s : List ℕ) (m n : ℕ) → IsTextOf s m → IsTextOf s n → m ≡ n
 one-number s m n p q = let e : dateOf s ≡ Is m = text-exact s m .1 p in let f : dateOf s ≡ Is n = text-exact s n .1 q in cc
 
 -- a date's number has at most eight digits
-pub eight-digits : (s : List ℕ) (n : ℕ) → Reads s n → n < 100000000
+pub eight-digits : (s : List ℕ) (n : ℕ) → IsTextOf s n → n < 100000000
 eight-digits s n r = text-of s n r .1
 
 -- the number that a date's digits make is the date's
-pub text-number : (s : List ℕ) (n : ℕ) → Reads s n → textNumber s ≡ n
+pub text-number : (s : List ℕ) (n : ℕ) → IsTextOf s n → textNumber s ≡ n
 unfolding dateOf
 text-number s n r =
     let e : dateOf s ≡ Is n = text-exact s n .1 r in

@@ -30,12 +30,12 @@ abbrev pub dateText : ℕ → ℕ → ℕ → List ℕ
 dateText year month day = map (λ d. 48 + d) (digits 10 4 year ++ digits 10 2 month ++ digits 10 2 day)
 
 -- these bytes are a date, and as a number it is n
-abbrev pub Reads : List ℕ → ℕ → Type 0
-Reads s n = (year : ℕ) × (month : ℕ) × (day : ℕ) × Exists year month day × (s ≡ dateText year month day) × (n ≡ dateNumber year month day)
+abbrev pub IsTextOf : List ℕ → ℕ → Type 0
+IsTextOf s n = (year : ℕ) × (month : ℕ) × (day : ℕ) × Exists year month day × (s ≡ dateText year month day) × (n ≡ dateNumber year month day)
 
 -- these bytes are a date
 abbrev pub IsTextDate : List ℕ → Type 0
-IsTextDate s = (n : ℕ) × Reads s n
+IsTextDate s = (n : ℕ) × IsTextOf s n
 
 -- the same as a test: eight digits, and the number that they make is a date
 abbrev pub isDigit : ℕ → Bool

@@ -22,12 +22,6 @@ pub enum Moment {
 // The days of each month of a common year, the first at 1.
 const MONTH_LENGTHS: [u8; 13] = [0, 31, 28, 31, 30, 31, 30, 31, 31, 30, 31, 30, 31];
 
-fn wide(x: u8) -> u64
-    ensures { λ r. ⌜ (r ≡ x) × (r < 256) ⌝ }
-{
-    x as u64
-}
-
 fn is_leap(year: u64) -> bool
     ensures { λ r. ⌜ r ≡ leap year ⌝ }
 {
@@ -41,7 +35,7 @@ fn days_in(year: u64, month: u64) -> u64
     if 12 < month {
         return 0;
     }
-    let days = wide(MONTH_LENGTHS[month as usize]);
+    let days = numbers::wide(MONTH_LENGTHS[month as usize]);
     if month != 2 {
         return days;
     }
@@ -81,7 +75,7 @@ fn two_digits(a: u8, b: u8) -> u64
     ensures { λ r. ⌜ (r ≡ twoDigits a b) × (r ≤ 10000) ⌝ }
 {
     if is_digit(a) & is_digit(b) {
-        return (wide(a) - 48) * 10 + (wide(b) - 48);
+        return (numbers::wide(a) - 48) * 10 + (numbers::wide(b) - 48);
     }
     10000
 }
@@ -119,16 +113,16 @@ pub fn moment_of(s: &[u8]) -> Moment
     if s.len() != 8 {
         return Moment::Never;
     }
-    let century = wide(s[0]);
-    let year = wide(s[1]);
-    let month = wide(s[2]);
-    let day = wide(s[3]);
+    let century = numbers::wide(s[0]);
+    let year = numbers::wide(s[1]);
+    let month = numbers::wide(s[2]);
+    let day = numbers::wide(s[3]);
     if !((century <= 99) & (year <= 99) & exists(century * 100 + year, month, day)) {
         return Moment::Never;
     }
-    let hour = wide(s[4]);
-    let minute = wide(s[5]);
-    let second = wide(s[6]);
+    let hour = numbers::wide(s[4]);
+    let minute = numbers::wide(s[5]);
+    let second = numbers::wide(s[6]);
     if !((hour <= 23) & (minute <= 59) & (second <= 59) & (s[7] == 0x5A)) {
         return Moment::Never;
     }

@@ -29,12 +29,6 @@ pub struct Decoded {
     pub numbers: Numbers,
 }
 
-fn wide(x: u8) -> u64
-    ensures { λ r. ⌜ (r ≡ x) × (r < 256) ⌝ }
-{
-    x as u64
-}
-
 // The `count` digits from `at` on, read in `base`.
 fn number(v: [u8; 40], at: usize, count: usize, base: u64) -> u64
     requires { ⌜ (at + count ≤ 40) × (1 < base) × (255 * base ^ count < 2 ^ 64) ⌝ }
@@ -43,7 +37,7 @@ fn number(v: [u8; 40], at: usize, count: usize, base: u64) -> u64
     let mut n: u64 = 0;
     let mut i: usize = 0;
     while i < count {
-        n = n * base + wide(v[at + i]);
+        n = n * base + numbers::wide(v[at + i]);
         i += 1;
     }
     n

@@ -16,7 +16,7 @@ use Rattle.laws.specs.Digits.{digits}
 use Rattle.laws.proofs.Cases.{which, not-so}
 use Rattle.texts.specs.Text.{digit}
 use Rattle.texts.proofs.Bounds.{decimal-length}
-use Rattle.dates.specs.Date.{Reads, IsTextDate, dateOf}
+use Rattle.dates.specs.Date.{IsTextOf, IsTextDate, dateOf}
 use Rattle.dates.specs.declared.Date.{Date}
 use Rattle.dates.specs.declared.Date.the-variants.{Is, Not}
 use Rattle.dates.proofs.Dates.{text-exact, text-not}
@@ -55,7 +55,7 @@ text-fits s room =
 
 -- ---- an input that asks for a container of a kind under a date
 
-date-long : {s : List ℕ} {n : ℕ} → Reads s n → length s ≡ 8
+date-long : {s : List ℕ} {n : ℕ} → IsTextOf s n → length s ≡ 8
 unfolding digits
 date-long (y, m, d, x, e, f) = ap length e
 

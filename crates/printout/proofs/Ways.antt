@@ -61,11 +61,11 @@ module _ (s : List ℕ) (room : ℕ) where
 
 -- what the report call leaves is what is printed; or its number is printed, into the zeros that it left
 shows : (o : Output) (d : List ℕ) {e : List ℕ} {r : Done} → ((t : List ℕ) → o ≡ text t → length t ≤ length d) → Leaves o d e r → r .number ≡ 0 → Put (shown o) (zeros (length d)) e (r .length)
-shows (refusal f p) d fit l z = absurd (never-zero f (sym (ap (λ (x : Done). x .number) (l .answer)) ∙ z))
+shows (refusal f) d fit l z = absurd (never-zero (f .fault) (sym (ap (λ (x : Done). x .number) (l .answer)) ∙ z))
 shows (text t) d fit l z = rw (l .room, ap (λ (x : Done). x .length) (l .answer)) (filled-put t (length d) (fit t refl))
 
 tells : (o : Output) (d : List ℕ) {e : List ℕ} {r : Done} → Leaves o d e r → (r .number ≡ 0 → ⊥) → (shown o ≡ refusedText (r .number)) × (e ≡ zeros (length d))
-tells (refusal f p) d l z = (ap refusedText (sym (ap (λ (x : Done). x .number) (l .answer))), l .room ∙ sym (filled-none (length d)))
+tells (refusal f) d l z = (ap refusedText (sym (ap (λ (x : Done). x .number) (l .answer))), l .room ∙ sym (filled-none (length d)))
 tells (text t) d l z = absurd (z (ap (λ (x : Done). x .number) (l .answer)))
 
 -- a report that was written fits its room

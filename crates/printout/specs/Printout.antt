@@ -6,11 +6,11 @@ use mathlib.Core.Bool.{cond}
 use mathlib.Core.List.{List, [], _∷_, _++_}
 use lib.ListN.{length, take, drop}
 use Rattle.texts.specs.Text.{ascii, digit, decimal}
-use Rattle.dates.specs.Date.{Reads, dateOf}
+use Rattle.dates.specs.Date.{IsTextOf, dateOf}
 use Rattle.dates.specs.declared.Date.{Date}
 use Rattle.dates.specs.declared.Date.the-variants.{Is, Not}
 use Rattle.kinds.specs.Tables.{isKind}
-use Rattle.verdicts.specs.Verdicts.{numberOf}
+use Rattle.verdicts.specs.Verdicts.{numberOf, found}
 use Rattle.verdicts.specs.Output.{Output, refusal, text}
 use Rattle.verdicts.specs.declared.Fault.the-variants.{UnknownKind, NoDate}
 use Rattle.container.specs.Container.{largest}
@@ -24,18 +24,18 @@ kindDigit [] = 0
 kindDigit (b ∷ s) = b - 48
 
 abbrev pub dated : ℕ → Date → List ℕ → ℕ → Output
-dated kind Not c room = refusal NoDate 0
+dated kind Not c room = refusal (found NoDate 0)
 dated kind (Is today) c room = reportOutput kind today c room
 
 -- "A bad kind wins over everything, a bad date over a container that is too long"
 unfoldable pub deskOutput : List ℕ → ℕ → Output
-deskOutput s room = cond (isKind (kindDigit s)) (dated (kindDigit s) (dateOf (take 8 (drop 1 s))) (drop 9 s) room) (refusal UnknownKind 0)
+deskOutput s room = cond (isKind (kindDigit s)) (dated (kindDigit s) (dateOf (take 8 (drop 1 s))) (drop 9 s) room) (refusal (found UnknownKind 0))
 
 unfoldable pub refusedText : ℕ → List ℕ
 refusedText n = ascii "refused " ++ decimal n ++ 10 ∷ []
 
 abbrev pub shown : Output → List ℕ
-shown (refusal f p) = refusedText (numberOf f)
+shown (refusal f) = refusedText (numberOf (f .fault))
 shown (text t) = t
 
 unfoldable pub deskText : List ℕ → ℕ → List ℕ
@@ -63,5 +63,5 @@ printed s = deskText (take inputSize s) reportRoom
 -- an input in 01's words: "one digit for the kind, eight for today, then a container"
 pub record Asks (s : List ℕ) (kind today : ℕ) (c : List ℕ) : Type 0 where
   pub date : List ℕ
-  pub date-is : Reads date today
+  pub date-is : IsTextOf date today
   pub written : s ≡ digit kind ∷ (date ++ c)

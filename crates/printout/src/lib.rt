@@ -6,12 +6,6 @@ ghost use Rattle.laws.specs.Room.{zeros, Put};
 ghost use Rattle.printout.specs.Printout.{kindDigit, deskText, refusedText};
 use dates::Date;
 
-fn wide(x: u8) -> u64
-    ensures { λ r. ⌜ (r ≡ x) × (r < 256) ⌝ }
-{
-    x as u64
-}
-
 // The kind's digit as a number; 0 where there is none.
 fn kind_digit(input: &[u8]) -> u64
     ensures { λ r. ⌜ r ≡ kindDigit (now (input .entry)) ⌝ }
@@ -19,7 +13,7 @@ fn kind_digit(input: &[u8]) -> u64
     if input.len() == 0 {
         return 0;
     }
-    let b = wide(input[0]);
+    let b = numbers::wide(input[0]);
     if b < 48 {
         return 0;
     }

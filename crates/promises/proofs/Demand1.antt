@@ -26,12 +26,11 @@ use Rattle.verdicts.specs.declared.Fault.the-variants.{SmallRoom, LongNumber, N
 use Rattle.verdicts.specs.declared.Outcome.{Outcome}
 use Rattle.verdicts.specs.declared.Outcome.the-variants.{Fine, Broken}
 use Rattle.container.specs.Container.{Values, container, largest}
-use Rattle.container.specs.Reading.{Parsed, values, fault, parsed, outcome, verdict}
-use Rattle.container.specs.Places.{Part, start, partOf}
+use Rattle.container.specs.Reading.{Parsed, values, fault, Part, located, parsed, outcome, verdict}
 use Rattle.sheet.specs.Sheet.{sheetOf}
 use Rattle.sheet.specs.Calls.{roomy, readOf, readOutput}
 use Rattle.writing.specs.Writing.{opened, judged, sizedOut, judgedOut, openedOut, writeOutput}
-use Rattle.views.specs.Views.{shown, viewOf, viewed}
+use Rattle.views.specs.Views.{partOf, shown, viewOf, viewed}
 use Rattle.report.specs.Calls.{reportOutput}
 use Rattle.report.proofs.Answers.{report-cases}
 use Rattle.prosianek.proofs.Decoding.{is-decoded, decoded-else}
@@ -42,19 +41,19 @@ use Rattle.promises.proofs.Rooms.{answer, Fits, left-nothing, left-text
 
 numbered : (o : Outcome) → Numbered (verdictOf o .number)
 numbered Fine = inl refl
-numbered (Broken f p) = inr (f, refl)
+numbered (Broken f) = inr (f .fault, refl)
 
 viewed-numbered : (kind today : ℕ) (c : List ℕ) (tag : ℕ) → Numbered (viewed kind today c tag .number)
 unfolding viewed
-viewed-numbered kind today c tag = go (parsed kind today c)
+viewed-numbered kind today c tag = go (located kind today c)
   where
     part : (o : Option Part) → Numbered (shown o .number)
     part none = inr (NoElement, refl)
     part (some p) = inl refl
 
-    go : (p : Parsed) → Numbered (viewOf kind p tag .number)
-    go (values vs) = part (partOf (table kind) vs (start kind vs) tag)
-    go (fault f p) = inr (f, refl)
+    go : (p : Parsed Part) → Numbered (viewOf kind p tag .number)
+    go (values ps) = part (partOf (table kind) ps tag)
+    go (fault f) = inr (f .fault, refl)
 
 decoded-numbered : (s : List ℕ) → Numbered (decoded s .number)
 unfolding decoded
@@ -75,9 +74,9 @@ read-fits : (kind today : ℕ) (c : List ℕ) (room : ℕ) → Fits room (readOu
 unfolding readOutput
 read-fits kind today c room = go (parsed kind today c)
   where
-    go : (p : Parsed) → Fits room (readOf p room)
+    go : (p : Parsed (List ℕ)) → Fits room (readOf p room)
     go (values vs) = roomy-fits (sheetOf vs) room
-    go (fault f p) = tt
+    go (fault f) = tt
 
 write-fits : (kind today : ℕ) (s : List ℕ) (room : ℕ) → Fits room (writeOutput kind today s room)
 unfolding writeOutput
@@ -99,7 +98,7 @@ write-fits kind today s room =
 
     ruled : (o : Outcome) (c : List ℕ) → Fits room (judgedOut o c room)
     ruled Fine c = sized c
-    ruled (Broken f p) c = tt
+    ruled (Broken f) c = tt
 
     whole : (o : Option Values) → Fits room (openedOut kind today o room)
     whole none = tt

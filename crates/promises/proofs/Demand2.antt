@@ -17,8 +17,9 @@ use Rattle.fascn.specs.declared.Numbers.{Numbers}
 use Rattle.fascn.specs.declared.Decoded.{Decoded}
 use Rattle.fascn.proofs.Framing.{range-exact}
 use Rattle.fascn.proofs.Packing.{length-encoded}
-use Rattle.verdicts.specs.Verdicts.{numberOf, verdictOf}
+use Rattle.verdicts.specs.Verdicts.{numberOf, found, verdictOf}
 use Rattle.verdicts.specs.declared.Fault.{Fault}
+use Rattle.verdicts.specs.declared.Outcome.the-variants.{Broken}
 use Rattle.verdicts.specs.declared.Verdict.{Verdict}
 use Rattle.verdicts.specs.declared.Done.{Done}
 use Rattle.kinds.specs.Tables.{table}
@@ -43,21 +44,21 @@ use Rattle.promises.proofs.Rooms.{text-of, gave}
 -- ---- the first broken rule
 
 pub first-named : (kind today : ℕ) (c : List ℕ) → Bytes c → (r : Verdict) → r ≡ verdict kind today c → (r .number ≡ 0 → ⊥)
-    → (f : Fault) × (r .number ≡ numberOf f) × Named kind today c f (r .place)
+    → (f : Fault) × (r .number ≡ numberOf f) × Named kind today c (found f (r .place))
 unfolding outcome
 first-named kind today c b r a n = go (parsed kind today c) refl
   where
-    go : (p : Parsed) → parsed kind today c ≡ p → (f : Fault) × (r .number ≡ numberOf f) × Named kind today c f (r .place)
+    go : (p : Parsed (List ℕ)) → parsed kind today c ≡ p → (f : Fault) × (r .number ≡ numberOf f) × Named kind today c (found f (r .place))
     go (values vs) e = absurd (n (rw (a, e)))
-    go (fault f p) e =
-        let q : r ≡ record { number = numberOf f; place = p } = a ∙ ap (λ (x : Parsed). verdictOf (outcomeOf x)) e in
-        (f, ap (λ (v : Verdict). v .number) q, rw q (named kind today c b f p e))
+    go (fault f) e =
+        let q : r ≡ verdictOf (Broken f) = a ∙ ap (λ (x : Parsed (List ℕ)). verdictOf (outcomeOf x)) e in
+        (f .fault, ap (λ (v : Verdict). v .number) q, rw q (named kind today c b f e))
 
-only-first : (kind today : ℕ) (c : List ℕ) → Bytes c → (r : Verdict) → r ≡ verdict kind today c → (f : Fault) (place : ℕ) → Named kind today c f place
+only-first : (kind today : ℕ) (c : List ℕ) → Bytes c → (r : Verdict) → r ≡ verdict kind today c → (f : Fault) (place : ℕ) → Named kind today c (found f place)
     → (r .number ≡ numberOf f) × (r .place ≡ place)
 unfolding outcome
 only-first kind today c b r a f place h =
-    let q : r ≡ record { number = numberOf f; place = place } = a ∙ ap (λ (x : Parsed). verdictOf (outcomeOf x)) (named-back kind today f place c b h) in
+    let q : r ≡ record { number = numberOf f; place = place } = a ∙ ap (λ (x : Parsed (List ℕ)). verdictOf (outcomeOf x)) (named-back kind today (found f place) c b h) in
     (ap (λ (v : Verdict). v .number) q, ap (λ (v : Verdict). v .place) q)
 
 -- ---- sheets
@@ -142,12 +143,12 @@ demand-2 = record {
   first-named = λ kind today c b r a. first-named kind today c b r (a .answer);
   only-first = λ kind today c b r a. only-first kind today c b r (a .answer);
   parsed-values = exact;
-  parsed-fault = named-exact;
+  parsed-fault = λ kind today c b f place. named-exact kind today c b (found f place);
   read-values = reads;
   write-values = writes;
   accepted-when = accepts;
   room-for-sheet = λ kind today c b vs f before after r h l.
-      gave before (read-fits kind today c (length before) b vs f (omega (arith, sheet-bound kind today vs c f))) (h .leaves) .0;
+      gave before (read-fits kind today c (length before) vs (exact kind today c b vs .1 f) (omega (arith, sheet-bound kind today vs c f))) (h .leaves) .0;
   read-then-write = there;
   write-then-read = back;
   view-value = λ kind today c b vs h i t o e v q at number place part bytes a. shown kind today c t (element-view kind today c b vs h i e v q) a;

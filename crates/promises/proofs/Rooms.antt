@@ -18,7 +18,7 @@ answer o d = record { answer = refl; room = refl }
 
 -- the output of a call that answered 0
 pub text-of : (o : Output) (d : List ℕ) {e : List ℕ} {r : Done} → Leaves o d e r → r .number ≡ 0 → (t : List ℕ) × (o ≡ text t) × (take (r .length) e ≡ t)
-text-of (refusal f p) d l z = absurd (never-zero f (sym (ap (λ (x : Done). x .number) (l .answer)) ∙ z))
+text-of (refusal f) d l z = absurd (never-zero (f .fault) (sym (ap (λ (x : Done). x .number) (l .answer)) ∙ z))
 text-of (text t) d l z = (t, refl, rw (l .answer, l .room) (filled-front t (length d)))
 
 -- and what a call left that has an output
@@ -27,7 +27,7 @@ gave {t = t} d q l = (rw (l .answer, q), rw (l .answer, l .room, q) (filled-fron
 
 -- an output that goes into a room of so many bytes
 abbrev pub Fits : ℕ → Output → Type 0
-Fits room (refusal f p) = Unit {0}
+Fits room (refusal f) = Unit {0}
 Fits room (text t) = length t ≤ room
 
 -- a room that was left with nothing in it, and one that was left with a text
@@ -52,5 +52,5 @@ left-text t d z h q =
     })
 
 pub clean : (o : Output) (d : List ℕ) {e : List ℕ} {r : Done} → Fits (length d) o → Leaves o d e r → Clean d e (r .number) (r .length)
-clean (refusal f p) d h l = rw (l .answer) (left-nothing d (inr (f, refl)) (l .room))
+clean (refusal f) d h l = rw (l .answer) (left-nothing d (inr (f .fault, refl)) (l .room))
 clean (text t) d h l = rw (l .answer) (left-text t d refl h (l .room))

@@ -19,7 +19,7 @@ use Rattle.fascn.specs.Fascn.{Conforms as IsFascnOf, IsFascn}
 use Rattle.fascn.specs.Calls.{noNumbers}
 use Rattle.fascn.specs.declared.Numbers.{Numbers}
 use Rattle.fascn.specs.declared.Decoded.{Decoded}
-use Rattle.verdicts.specs.Verdicts.{numberOf}
+use Rattle.verdicts.specs.Verdicts.{numberOf, found}
 use Rattle.verdicts.specs.declared.Fault.{Fault}
 use Rattle.verdicts.specs.declared.Fault.the-variants.{UnknownKind, NoDate, LargeContainer, NoElement, BadFascn}
 use Rattle.verdicts.specs.declared.Verdict.{Verdict}
@@ -94,13 +94,13 @@ pub record Demand2 : Type 0 where
   pub only-one : (kind today : ℕ) (c : List ℕ) → Bytes c → (vs ws : Values) → Conforms kind today vs c → Conforms kind today ws c → vs ≡ ws
   -- "otherwise the first broken rule and its place are named"
   pub first-named : (kind today : ℕ) (c : List ℕ) → Bytes c → (r : Verdict) → Checks kind today c r → (r .number ≡ 0 → ⊥)
-      → (f : Fault) × (r .number ≡ numberOf f) × Named kind today c f (r .place)
+      → (f : Fault) × (r .number ≡ numberOf f) × Named kind today c (found f (r .place))
   -- and nothing else can be named: where a rule is the first that is broken, the verdict is its number and its place
-  pub only-first : (kind today : ℕ) (c : List ℕ) → Bytes c → (r : Verdict) → Checks kind today c r → (f : Fault) (place : ℕ) → Named kind today c f place
+  pub only-first : (kind today : ℕ) (c : List ℕ) → Bytes c → (r : Verdict) → Checks kind today c r → (f : Fault) (place : ℕ) → Named kind today c (found f place)
       → (r .number ≡ numberOf f) × (r .place ≡ place)
   -- what is read of some bytes, from which sheets, views and reports are made: their values, exactly where they conform, or else the first broken rule
   pub parsed-values : (kind today : ℕ) (c : List ℕ) → Bytes c → (vs : Values) → (parsed kind today c ≡ values vs) ↔ Conforms kind today vs c
-  pub parsed-fault : (kind today : ℕ) (c : List ℕ) → Bytes c → (f : Fault) (place : ℕ) → (parsed kind today c ≡ fault f place) ↔ Named kind today c f place
+  pub parsed-fault : (kind today : ℕ) (c : List ℕ) → Bytes c → (f : Fault) (place : ℕ) → (parsed kind today c ≡ fault (found f place)) ↔ Named kind today c (found f place)
   -- a sheet that was read holds the container's values, and a container that was written has the sheet's
   pub read-values : (kind today : ℕ) (c before after : List ℕ) (r : Done) → Bytes c → Reads kind today c before after r → r .number ≡ 0
       → (vs : Values) × Conforms kind today vs c × IsSheet (table kind) vs (take (r .length) after)

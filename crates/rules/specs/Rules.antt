@@ -14,7 +14,7 @@ use Rattle.kinds.specs.declared.ValueRule.{ValueRule}
 use Rattle.kinds.specs.declared.ValueRule.the-variants.{Free, Fascn, Uuid, Expiry, Model, Application, Policy, Text, Date, Fingers, Face}
 use Rattle.fascn.specs.Fascn.{IsFascn}
 use Rattle.fascn.specs.Reading.{isFascn}
-use Rattle.dates.specs.Date.{Reads, IsTextDate, InWindow, dateOf, inWindow}
+use Rattle.dates.specs.Date.{IsTextOf, IsTextDate, InWindow, dateOf, inWindow}
 use Rattle.dates.specs.declared.Date.{Date as TextDate}
 use Rattle.dates.specs.declared.Date.the-variants.{Is, Not}
 use Rattle.plain.specs.Plain.{Uuid as IsUuid, isUuid, IsPolicy, isPolicy, Text as IsText, isText}
@@ -33,7 +33,7 @@ abbrev pub Keeps : ValueRule → ℕ → List ℕ → Type 0
 Keeps Free today v = Unit {0}
 Keeps Fascn today v = IsFascn v
 Keeps Uuid today v = IsUuid v
-Keeps Expiry today v = (expiry : ℕ) × Reads v expiry × InWindow today expiry
+Keeps Expiry today v = (expiry : ℕ) × IsTextOf v expiry × InWindow today expiry
 Keeps Model today v = v ≡ model
 Keeps Application today v = v ≡ application
 Keeps Policy today v = IsPolicy v

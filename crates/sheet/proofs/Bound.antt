@@ -12,6 +12,7 @@ use borrow.Author.Tests.{leb-true}
 use Rattle.laws.specs.Tests.{allBelow}
 use Rattle.laws.proofs.Cases.{which}
 use Rattle.lengths.specs.Length.{lengthBytes}
+use Rattle.lengths.proofs.Writing.{some-bytes}
 use Rattle.kinds.specs.Tables.{Table, table}
 use Rattle.kinds.proofs.Every.{of-every}
 use Rattle.container.specs.Container.{Values, tagBytes, encode, Allowed, Conforms}
@@ -34,16 +35,6 @@ tag-long t = elim (which (ltb t 256)) [
   | inr q ↦ rw q (omega arith)
 ]
 
-length-long : (n : ℕ) → 1 ≤ length (lengthBytes n)
-unfolding lengthBytes
-length-long n = elim (which (ltb n 128)) [
-  | inl q ↦ rw q (omega arith)
-  | inr q ↦ elim (which (ltb n 256)) [
-    | inl p ↦ rw (q, p) (omega arith)
-    | inr p ↦ rw (q, p) (omega arith)
-  ]
-]
-
 -- an element takes two bytes or more beside its value, as a section does; an absent row takes two bytes of the sheet alone
 rows-bound : (today : ℕ) (rs : Table) (vs : Values) → Allowed today rs vs → length (sheetOf vs) ≤ length (encode rs vs) + 2 * optionals rs
 unfolding sheetOf
@@ -60,11 +51,11 @@ rows-bound today (r ∷ rs) (some v ∷ vs) a =
     let k = length-append (tagBytes (r .tag)) (lengthBytes (length v) ++ (v ++ encode rs vs)) in
     let m = length-append (lengthBytes (length v)) (v ++ encode rs vs) in
     let n = length-append v (encode rs vs) in
-    omega (arith, h, l, k, m, n, tag-long (r .tag), length-long (length v))
+    omega (arith, h, l, k, m, n, tag-long (r .tag), some-bytes (length v))
 
 pub sheet-bound : (kind today : ℕ) (vs : Values) (c : List ℕ) → Conforms kind today vs c → length (sheetOf vs) ≤ length c + 6
 sheet-bound kind today vs c h =
     let body = encode (table kind) vs in
     let b = rows-bound today (table kind) vs (h .allowed) in
     let l = length-append (lengthBytes (length body)) body in
-    omega (arith, b, few kind, ap length (h .written), l, length-long (length body))
+    omega (arith, b, few kind, ap length (h .written), l, some-bytes (length body))

@@ -2,12 +2,12 @@
 use Prim.Native.Nat.{ℕ}
 use mathlib.Core.Path.{_≡_, refl}
 use mathlib.Core.List.{List, [], _∷_}
-use Rattle.lengths.specs.Length.{lengthBytes, readLength}
+use Rattle.lengths.specs.Length.{readLength}
 use Rattle.dates.specs.Calendar.{exists, daysIn}
 use Rattle.dates.specs.Date.{isDate}
 use Rattle.plain.specs.Plain.{isPolicy}
 use Rattle.rules.specs.Rules.{ruleOf}
-use Rattle.container.specs.Reading.{element, parsed}
+use Rattle.container.specs.Reading.{element, located}
 use Rattle.views.specs.Views.{viewed}
 use Rattle.views.proofs.Elements.{absentView}
 
@@ -16,17 +16,17 @@ abbrev security : List ℕ
 security = 0x53 ∷ 8 ∷ 0xBA ∷ 2 ∷ 0x10 ∷ 0x20 ∷ 0xBB ∷ 0 ∷ 0xFE ∷ 0 ∷ []
 
 pub security-ba : viewed 5 20260601 security 0xBA ≡ record { number = 0; place = 0; part = record { offset = 4; bytes = 0x10 ∷ 0x20 ∷ [] } }
-unfolding viewed parsed isDate exists daysIn readLength element ruleOf lengthBytes
+unfolding viewed located isDate exists daysIn readLength element ruleOf
 security-ba = refl
 
 -- an empty value at the container's end
 pub security-fe : viewed 5 20260601 security 0xFE ≡ record { number = 0; place = 0; part = record { offset = 10; bytes = [] } }
-unfolding viewed parsed isDate exists daysIn readLength element ruleOf lengthBytes
+unfolding viewed located isDate exists daysIn readLength element ruleOf
 security-fe = refl
 
 -- a tag that is not of the kind
 pub security-30 : viewed 5 20260601 security 0x30 ≡ absentView
-unfolding viewed parsed isDate exists daysIn readLength element ruleOf
+unfolding viewed located isDate exists daysIn readLength element ruleOf
 security-30 = refl
 
 -- DISCOVERY: the tag of two bytes
@@ -34,10 +34,10 @@ abbrev discovery : List ℕ
 discovery = 0x7E ∷ 0x12 ∷ 0x4F ∷ 11 ∷ 0xA0 ∷ 0 ∷ 0 ∷ 3 ∷ 8 ∷ 0 ∷ 0 ∷ 0x10 ∷ 0 ∷ 1 ∷ 0 ∷ 0x5F ∷ 0x2F ∷ 2 ∷ 0x40 ∷ 0 ∷ []
 
 pub discovery-policy : viewed 3 20260601 discovery 0x5F2F ≡ record { number = 0; place = 0; part = record { offset = 18; bytes = 0x40 ∷ 0 ∷ [] } }
-unfolding viewed parsed isDate exists daysIn readLength element ruleOf isPolicy lengthBytes
+unfolding viewed located isDate exists daysIn readLength element ruleOf isPolicy
 discovery-policy = refl
 
 -- "View: check, then 6": with no kind it is 1
 pub no-kind : viewed 0 20260601 discovery 0x5F2F ≡ record { number = 1; place = 0; part = record { offset = 0; bytes = [] } }
-unfolding viewed parsed
+unfolding viewed located
 no-kind = refl

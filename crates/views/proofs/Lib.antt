@@ -1,4 +1,3 @@
-pub mod Seeking
 pub mod Ways
 pub mod Elements
 pub mod Examples

@@ -1,29 +1,33 @@
 -- The ways out of `locate`. Assumes nothing.
-use Prim.Native.Nat.{ℕ, _+_, _-_, _≤_}
+use Prim.Native.Nat.{ℕ, zero, suc, _+_, _-_, _≤_}
 use mathlib.Core.Path.{_≡_, refl, sym, ap, _∙_}
+use mathlib.Core.Logic.{inl, inr}
+use mathlib.Core.Bool.{cond}
 use mathlib.Core.Option.{Option, none, some}
-use mathlib.Core.List.{List}
+use mathlib.Core.List.{List, [], _∷_}
+use native.Mathlib.Nat.{add-sub-cancel-left}
 use native.Mathlib.Omega.{arith}
-use lib.ListN.{length, take, drop, length-drop}
-use lib.Seq.{length-take-le}
+use lib.Dec.{eqb}
+use lib.ListN.{length, take, drop, getD, List·getD-eq-default}
+use borrow.Author.Tests.{ne-eqb}
 use Rattle.laws.specs.Bytes.{Bytes}
+use Rattle.laws.proofs.Cases.{which}
 use Rattle.verdicts.specs.Verdicts.{numberOf}
-use Rattle.verdicts.specs.declared.Fault.{Fault}
-use Rattle.verdicts.specs.declared.Fault.the-variants.{NoElement}
-use Rattle.verdicts.specs.declared.Outcome.the-variants.{Broken}
-use Rattle.kinds.specs.Tables.{table}
-use Rattle.container.specs.Container.{Values, Conforms}
-use Rattle.container.specs.Reading.{Parsed, values, fault, parsed, outcomeOf, outcome}
-use Rattle.container.specs.Places.{Part, start, partOf}
-use Rattle.container.specs.declared.Found.the-variants.{At, Absent}
-use Rattle.container.proofs.Promise.{conforms-parsed}
-use Rattle.views.specs.Lies.{Lies, Within}
-use Rattle.views.specs.Views.{View, nothing, shown, viewOf, viewed, Locates}
+use Rattle.verdicts.specs.declared.Finding.{Finding}
+use Rattle.kinds.specs.Tables.{Table, table, find, rowOf}
+use Rattle.kinds.specs.declared.Row.{Row}
+use Rattle.kinds.specs.declared.Row.the-variants.{At, Missing}
+use Rattle.kinds.proofs.Every.{found-row}
+use Rattle.container.specs.Reading.{values, fault, Part, located}
+use Rattle.container.specs.Map.{mapOf}
+use Rattle.container.specs.declared.Map.{Map}
+use Rattle.container.proofs.Lying.{Stands, All, stands, startOf, endOf, rows-are, lies}
+use Rattle.views.specs.Views.{View, partOf, shown, viewed, Locates, absence, byMap}
 
 -- a part that lies so
-located : {v : View} (c : List ℕ) {n q from to : ℕ} {s : List ℕ} → v ≡ record { number = n; place = q; part = record { offset = from; bytes = s } }
+located-so : {v : View} (c : List ℕ) {n q from to : ℕ} {s : List ℕ} → v ≡ record { number = n; place = q; part = record { offset = from; bytes = s } }
     → to ≡ from + length s → to ≤ length c → take (to - from) (drop from c) ≡ s → Locates v c (record { number = n; place = q; from = from; to = to })
-located c e t i b =
+located-so c e t i b =
     record {
       number-is = ap (λ (v : View). v .number) (sym e);
       place-is = ap (λ (v : View). v .place) (sym e);
@@ -33,41 +37,79 @@ located c e t i b =
       bytes-are = b ∙ ap (λ (v : View). v .part .bytes) (sym e);
     }
 
+-- ---- the row that a tag has
+
+-- what a row's number says of the parts: the part of that row
+tagged : Row → ℕ → List (Option Part) → Option Part
+tagged Missing i ps = none
+tagged (At j from least most empty rule) i ps = getD ps (j - (i + 1)) none
+
+by-row : (rs : Table) (ps : List (Option Part)) (i from t : ℕ) → partOf rs ps t ≡ tagged (find i from rs t) i ps
+unfolding tagged
+by-row [] ps i from t = refl
+by-row (r ∷ rs) [] i from t = go (find i from (r ∷ rs) t)
+  where
+    go : (x : Row) → none ≡ tagged x i []
+    go Missing = refl
+    go (At j f least most empty rule) = sym (List·getD-eq-default [] none {n = j - (i + 1)} (omega arith))
+by-row (r ∷ rs) (o ∷ ps) i from t =
+    elim (which (eqb t (r .tag))) [
+      | inl q ↦ let z : i + 1 - (i + 1) ≡ 0 = omega arith in rw (q, z)
+      | inr q ↦ rw q (by-row rs ps (i + 1) (cond (r .optional) from (i + 1)) t ∙ go (find (i + 1) (cond (r .optional) from (i + 1)) rs t) refl)
+    ]
+  where
+    go : (x : Row) → find (i + 1) (cond (r .optional) from (i + 1)) rs t ≡ x → tagged x (i + 1) ps ≡ tagged x i (o ∷ ps)
+    go Missing e = refl
+    go (At j f least most empty rule) e =
+        let h = found-row rs (i + 1) (cond (r .optional) from (i + 1)) t e in
+        let z : j - (i + 1) ≡ suc (j - (i + 1 + 1)) = omega (arith, h .0) in
+        rw z
+
+pub no-part : {p : Part} → none ≡ some p → ⊥
+no-part e = let z : _≡_ {A = ℕ} 0 1 = cc in omega arith
+
+-- a part of some that stand stands
+pub picked : (c : List ℕ) (ps : List (Option Part)) → All c ps → (i : ℕ) (p : Part) → getD ps i none ≡ some p → Stands c p
+picked c [] a zero p e = absurd (no-part e)
+picked c [] a (suc i) p e = absurd (no-part e)
+picked c (none ∷ ps) a zero p e = absurd (no-part e)
+picked c (none ∷ ps) a (suc i) p e = picked c ps a i p e
+picked c (some q ∷ ps) a zero p e = let z : q ≡ p = cc in rw z at (a .0)
+picked c (some q ∷ ps) a (suc i) p e = picked c ps (a .1) i p e
+
+-- ---- the ways out
+
 module _ (kind today : ℕ) (c : List ℕ) (tag : ℕ) where
-  broken : {f : Fault} {q : ℕ} → outcome kind today c ≡ Broken f q → viewed kind today c tag ≡ record { number = numberOf f; place = q; part = nothing }
-  unfolding viewed outcome
-  broken {f} {q} e = go (parsed kind today c) e
-    where
-      go : (r : Parsed) → outcomeOf r ≡ Broken f q → viewOf kind r tag ≡ record { number = numberOf f; place = q; part = nothing }
-      go (values vs) e = let z : _≡_ {A = ℕ} 0 1 = cc in absurd (omega arith)
-      go (fault g p) e = cc
-
-  -- the view of a container that conforms, by its values
-  pub by-values : Bytes c → (vs : Values) → Conforms kind today vs c → viewed kind today c tag ≡ shown (partOf (table kind) vs (start kind vs) tag)
-  unfolding viewed
-  by-values b vs h = rw (conforms-parsed kind today c b vs h)
-
   -- the check refuses
-  pub out-broken : {f : Fault} {n q : ℕ} → outcome kind today c ≡ Broken f q → n ≡ numberOf f
-      → Locates (viewed kind today c tag) c (record { number = n; place = q; from = 0; to = 0 })
-  out-broken {q = q} e i = located c (broken e ∙ ap (λ (n : ℕ). record { number = n; place = q; part = nothing }) (sym i)) refl (omega arith) refl
+  pub out-broken : {f : Finding} {n : ℕ} → located kind today c ≡ fault f → n ≡ numberOf (f .fault) → Locates (viewed kind today c tag) c (record { number = n; place = f .place; from = 0; to = 0 })
+  unfolding viewed
+  out-broken {f} e i = located-so c (rw (e, i)) refl (omega arith) refl
 
-  module _ (b : Bytes c) (vs : Values) (h : Conforms kind today vs c) where
+  module _ (b : Bytes c) (ps : List (Option Part)) (e : located kind today c ≡ values ps) where
+    -- the view of what was read
+    pub by-parts : viewed kind today c tag ≡ shown (partOf (table kind) ps tag)
+    unfolding viewed
+    by-parts = rw e
+
+    -- a row of the table: what the map has of it
+    in-row : (i : ℕ) (o : Option Part) → partOf (table kind) ps tag ≡ o → getD ps i none ≡ o → {from to : ℕ} → from ≡ startOf o → to ≡ endOf o
+        → Locates (viewed kind today c tag) c (cond (eqb to 0) absence (record { number = 0; place = 0; from = from; to = to }))
+    in-row i none q g f t = rw t (located-so c (by-parts ∙ ap shown q) refl (omega arith) refl)
+    in-row i (some p) q g f t =
+        let s = picked c ps (stands kind today c b ps e) i p g in
+        let n : p .offset + length (p .bytes) ≡ 0 → ⊥ = λ z. omega (arith, s .behind) in
+        rw (t, ne-eqb _ _ n, f) (located-so c (by-parts ∙ ap shown q) refl (s .within) (rw add-sub-cancel-left (s .bytes)))
+
     -- "View: check, then 6"
-    pub out-absent : {n : ℕ} → Lies (partOf (table kind) vs (start kind vs) tag) c Absent → n ≡ numberOf NoElement
-        → Locates (viewed kind today c tag) c (record { number = n; place = 0; from = 0; to = 0 })
-    out-absent {n} l i = located c (by-values b vs h ∙ go (partOf (table kind) vs (start kind vs) tag) l) refl (omega arith) refl
+    pub out-fine : {m : Map} → m ≡ mapOf (located kind today c) → Locates (viewed kind today c tag) c (byMap (rowOf kind tag) (m .from) (m .to))
+    unfolding tagged
+    out-fine {m} z = rw z (go (rowOf kind tag) refl)
       where
-        go : (o : Option Part) → Lies o c Absent → shown o ≡ record { number = n; place = 0; part = nothing }
-        go none l = ap (λ (n : ℕ). record { number = n; place = 0; part = nothing }) (sym i)
-        go (some p) l = absurd l
-
-    pub out-there : (from to : ℕ) → Within (At from to) (length c) → Lies (partOf (table kind) vs (start kind vs) tag) c (At from to)
-        → Locates (viewed kind today c tag) c (record { number = 0; place = 0; from = from; to = to })
-    out-there from to w l =
-        let n = length-take-le (to - from) (drop from c) (omega (arith, w, length-drop from c)) in
-        located c (by-values b vs h ∙ go (partOf (table kind) vs (start kind vs) tag) l) (omega (arith, w, n)) (w .1) refl
-      where
-        go : (o : Option Part) → Lies o c (At from to) → shown o ≡ record { number = 0; place = 0; part = record { offset = from; bytes = take (to - from) (drop from c) } }
-        go none l = absurd l
-        go (some p) l = sym (λ i. record { number = 0; place = 0; part = record { offset = l .0 i; bytes = l .1 i } })
+        go : (x : Row) → rowOf kind tag ≡ x → Locates (viewed kind today c tag) c (byMap x (mapOf (located kind today c) .from) (mapOf (located kind today c) .to))
+        go Missing x =
+            let n : partOf (table kind) ps tag ≡ none = by-row (table kind) ps 0 0 tag ∙ rw x in
+            located-so c (by-parts ∙ ap shown n) refl (omega arith) refl
+        go (At j f least most empty rule) x =
+            let h = found-row (table kind) 0 0 tag x in
+            let l = lies kind today c b ps e (j - 1) (omega (arith, h .0, h .1, rows-are kind today c b ps e)) in
+            in-row (j - 1) (getD ps (j - 1) none) (by-row (table kind) ps 0 0 tag ∙ rw x) refl (l .0) (l .1)

@@ -2,14 +2,17 @@
 -- "View: check, then 6." "A refused view is an empty part": at the container's start.
 use Prim.Native.Nat.{ℕ, _+_, _-_, _≤_}
 use mathlib.Core.Path.{_≡_}
+use mathlib.Core.Bool.{cond}
 use mathlib.Core.Option.{Option, none, some}
-use mathlib.Core.List.{List, []}
-use lib.ListN.{length, take, drop}
+use mathlib.Core.List.{List, [], _∷_}
+use lib.Dec.{eqb}
+use lib.ListN.{length, take, drop, getD}
 use Rattle.verdicts.specs.Verdicts.{numberOf}
 use Rattle.verdicts.specs.declared.Fault.the-variants.{NoElement}
-use Rattle.kinds.specs.Tables.{table}
-use Rattle.container.specs.Reading.{Parsed, values, fault, parsed}
-use Rattle.container.specs.Places.{Part, start, partOf}
+use Rattle.kinds.specs.Tables.{Table, table}
+use Rattle.kinds.specs.declared.Row.{Row}
+use Rattle.kinds.specs.declared.Row.the-variants.{At, Missing}
+use Rattle.container.specs.Reading.{Parsed, values, fault, Part, located}
 use Rattle.views.specs.declared.Located.{Located}
 
 -- the number and its place, and the part: its offset in the container and its bytes
@@ -18,6 +21,12 @@ pub record View : Type 0 where
   pub place : ℕ
   pub part : Part
 
+-- the part of the row that has a tag, if it is there
+abbrev pub partOf : Table → List (Option Part) → ℕ → Option Part
+partOf [] ps t = none
+partOf (r ∷ rs) [] t = none
+partOf (r ∷ rs) (o ∷ ps) t = cond (eqb t (r .tag)) o (partOf rs ps t)
+
 abbrev pub nothing : Part
 nothing = record { offset = 0; bytes = [] }
 
@@ -25,12 +34,12 @@ abbrev pub shown : Option Part → View
 shown none = record { number = numberOf NoElement; place = 0; part = nothing }
 shown (some p) = record { number = 0; place = 0; part = p }
 
-abbrev pub viewOf : ℕ → Parsed → ℕ → View
-viewOf kind (values vs) tag = shown (partOf (table kind) vs (start kind vs) tag)
-viewOf kind (fault f p) tag = record { number = numberOf f; place = p; part = nothing }
+abbrev pub viewOf : ℕ → Parsed Part → ℕ → View
+viewOf kind (values ps) tag = shown (partOf (table kind) ps tag)
+viewOf kind (fault f) tag = record { number = numberOf (f .fault); place = f .place; part = nothing }
 
 unfoldable pub viewed : ℕ → ℕ → List ℕ → ℕ → View
-viewed kind today c tag = viewOf kind (parsed kind today c) tag
+viewed kind today c tag = viewOf kind (located kind today c) tag
 
 -- the same in numbers, of the bytes c: from where to where the part lies. The last two follow from the others; they stand here so that a caller finds them
 pub record Locates (v : View) (c : List ℕ) (r : Located) : Type 0 where
@@ -49,3 +58,12 @@ pub record Answers (v : View) (container : ℕ × ℕ) (number place : ℕ) (par
   pub block-is : part .0 ≡ container .0
   pub offset-is : part .1 ≡ container .1 + v .part .offset
   pub bytes-are : bytes ≡ v .part .bytes
+
+-- what a map has of a row, in numbers. Nothing of 01 is said here
+abbrev pub absence : Located
+absence = record { number = 6; place = 0; from = 0; to = 0 }
+
+abbrev pub byMap : Row → List ℕ → List ℕ → Located
+byMap Missing starts ends = absence
+byMap (At i from least most empty rule) starts ends =
+    cond (eqb (getD ends (i - 1) 0) 0) absence (record { number = 0; place = 0; from = getD starts (i - 1) 0; to = getD ends (i - 1) 0 })

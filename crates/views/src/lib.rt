@@ -1,32 +1,10 @@
 // "A view gives the element's value as a part of the caller's container; its place and length are fixed."
 ghost use mathlib.Core.Path.{_≡_};
-ghost use lib.ListN.{length};
-ghost use Rattle.views.specs.Lies.{sought, Within};
-ghost use Rattle.views.specs.Views.{viewed, Locates, Answers};
-use container::Found;
-use kinds::Slot;
+ghost use Rattle.kinds.specs.Tables.{rowOf};
+ghost use Rattle.views.specs.Views.{viewed, Locates, Answers, byMap};
+use container::Map;
+use kinds::Row;
 use verdicts::Outcome;
-
-// What is found of the tag's row: the rows one after the other, up to that one. In a container that conforms it is where the
-// value with this tag lies (`sought-lies` in proofs/Seeking.antt).
-pub fn sought(kind: u64, tag: u64, c: &[u8]) -> Found
-    ensures { λ r. ⌜ r ≡ sought kind tag (now (c .entry)) ⌝ }
-    ensures { λ r. ⌜ Within r (length (now (c .entry))) ⌝ }
-{
-    let mut from = container::first_element(c);
-    let mut row: u64 = 0;
-    while let Slot::Holds(here, _) = kinds::row_at(kind, row) {
-        let found = container::found_at(kind, here, c, from);
-        if here == tag {
-            return found;
-        }
-        row += 1;
-        if let Found::At(_, end) = found {
-            from = end;
-        }
-    }
-    Found::Absent
-}
 
 // What a view comes to in numbers: the answer and its place, and where the part lies in the container.
 pub struct Located {
@@ -36,32 +14,60 @@ pub struct Located {
     pub to: usize,
 }
 
-// "View: check, then 6." The check's number and place; 6 where the element is absent or the tag is not of the kind; or 0
-// and where the value lies. A refused part is empty and stands at the container's start.
+// No such element: 6.
+fn absent() -> Located
+    ensures { λ r. ⌜ r ≡ record { number = 6; place = 0; from = 0; to = 0 } ⌝ }
+{
+    Located {
+        number: 6,
+        place: 0,
+        from: 0,
+        to: 0,
+    }
+}
+
+// What the map has of the tag's row: 6 where the element is absent or the tag is not of the kind; or 0 and where the value lies.
+fn by_map(kind: u64, tag: u64, map: Map) -> Located
+    ensures { λ r. ⌜ r ≡ byMap (rowOf kind tag) (map .from) (map .to) ⌝ }
+{
+    match kinds::row_of(kind, tag) {
+        Row::Missing => absent(),
+        Row::At(index, _, _, _, _, _) => {
+            let froms = map.from;
+            let tos = map.to;
+            let row = (index - 1) as usize;
+            let to = tos[row] as usize;
+            if to == 0 {
+                return absent();
+            }
+            Located {
+                number: 0,
+                place: 0,
+                from: froms[row] as usize,
+                to: to,
+            }
+        }
+    }
+}
+
+// "View: check, then 6." The check's number and place, or what the map has. A refused part is empty and stands at the
+// container's start.
 pub fn locate(kind: u64, today: u64, container: &[u8], tag: u64) -> Located
     ensures { λ r. ⌜ Locates (viewed kind today (now (container .entry)) tag) (now (container .entry)) r ⌝ }
 {
-    match container::judge(kind, today, container) {
-        Outcome::Broken(f, at) => Located {
-            number: verdicts::number_of(f),
-            place: at as u64,
-            from: 0,
-            to: 0,
-        },
-        Outcome::Fine => match sought(kind, tag, container) {
-            Found::Absent => Located {
-                number: 6,
-                place: 0,
+    let map = container::judge(kind, today, container);
+    let outcome = map.outcome;
+    match outcome {
+        Outcome::Broken(f) => {
+            let fault = f.fault;
+            Located {
+                number: verdicts::number_of(fault),
+                place: f.place as u64,
                 from: 0,
                 to: 0,
-            },
-            Found::At(start, end) => Located {
-                number: 0,
-                place: 0,
-                from: start,
-                to: end,
-            },
-        },
+            }
+        }
+        Outcome::Fine => by_map(kind, tag, map),
     }
 }
 
