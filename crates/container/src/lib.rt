@@ -86,9 +86,13 @@ fn value_at(
                 return Value::Bad(Fault::ElementLength);
             }
             let end = next + n;
-            match rules::judge(rule, today, &c[next..end]) {
-                Ruling::Kept => Value::Whole(next, end),
-                Ruling::Breaks(f) => Value::Bad(f),
+            match rule {
+                // most values are free: they are told here, without a call
+                ValueRule::Free => Value::Whole(next, end),
+                _ => match rules::judge(rule, today, &c[next..end]) {
+                    Ruling::Kept => Value::Whole(next, end),
+                    Ruling::Breaks(f) => Value::Bad(f),
+                },
             }
         }
     }

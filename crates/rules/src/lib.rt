@@ -42,7 +42,7 @@ fn date(d: Date) -> Ruling
 // Whether a value keeps the rule under the date today, or which fault it has. The judge of the biometric records stays a
 // call: it gets a part that is made for it, and its answer goes through a local, so that the compiler keeps the value and
 // the answer of every other rule in registers.
-fn judge_value(rule: ValueRule, today: u64, v: &[u8]) -> Ruling
+pub fn judge(rule: ValueRule, today: u64, v: &[u8]) -> Ruling
     ensures { λ r. ⌜ r ≡ ruleOf rule today (now (v .entry)) ⌝ }
 {
     match rule {
@@ -66,15 +66,5 @@ fn judge_value(rule: ValueRule, today: u64, v: &[u8]) -> Ruling
             let answer = cbeff::judge(face(), &v[0..]);
             answer
         }
-    }
-}
-
-// The same. Most elements' values are free, and those are told here: this part is small enough to go into its callers.
-pub fn judge(rule: ValueRule, today: u64, v: &[u8]) -> Ruling
-    ensures { λ r. ⌜ r ≡ ruleOf rule today (now (v .entry)) ⌝ }
-{
-    match rule {
-        ValueRule::Free => Ruling::Kept,
-        _ => judge_value(rule, today, v),
     }
 }

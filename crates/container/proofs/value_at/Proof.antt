@@ -12,6 +12,7 @@ use Rattle.laws.proofs.Bases.{below-of}
 use Rattle.lengths.specs.Length.{lengthAt}
 use Rattle.lengths.specs.declared.Length.the-variants.{Is}
 use Rattle.kinds.specs.Tables.{permits}
+use Rattle.rules.specs.Rules.{ruleOf}
 use Rattle.container.proofs.Lengthy.{no-length, inside, over, wrong-size, broke, ends}
 use Rattle.container.proofs.value_at.Statement.{statement}
 use Rattle.container.proofs.value_at.Tie as tie
@@ -49,19 +50,28 @@ returns-3 c =
     let a = c .before .before .before .before .args in
     no-length (a .c .now) (a .at) (a .least) (a .most) (a .empty) (a .rule) (a .today) (sym (c .enum-told .given .1) ∙ c .before .before .read-length .ensures)
 
+-- a value without a rule keeps it
 returns-4 : tie.Need-returns-4
+unfolding ruleOf
 returns-4 c =
-    let j = c .before .before in
-    let p = j .before .before in
+    let p = c .before .before in
     let k = p .before .before .before in
     let a = k .before .before .before .before .before .args in
-    ends (a .c .now) (a .at) (a .least) (a .most) (a .empty) (a .rule) (a .today) (bytes k) (told k) (p .before .before .if1 .left) (allowed p)
-    (sym (c .enum-told2 .given .1) ∙ rw add-sub-cancel-left at (j .judge .ensures))
+    ends (a .c .now) (a .at) (a .least) (a .most) (a .empty) (a .rule) (a .today) (bytes k) (told k) (p .before .before .if1 .left) (allowed p) (rw (c .enum-told2 .given .1))
 
 returns-5 : tie.Need-returns-5
 returns-5 c =
+    let j = c .before .before in
+    let p = j .before .before .before in
+    let k = p .before .before .before in
+    let a = k .before .before .before .before .before .args in
+    ends (a .c .now) (a .at) (a .least) (a .most) (a .empty) (a .rule) (a .today) (bytes k) (told k) (p .before .before .if1 .left) (allowed p)
+    (sym (c .enum-told3 .given .1) ∙ rw add-sub-cancel-left at (j .judge .ensures))
+
+returns-6 : tie.Need-returns-6
+returns-6 c =
     let j = c .before .before .before in
-    let p = j .before .before in
+    let p = j .before .before .before in
     let k = p .before .before .before in
     let a = k .before .before .before .before .before .args in
     broke (a .c .now) (a .at) (a .least) (a .most) (a .empty) (a .rule) (a .today) (bytes k) (told k) (p .before .before .if1 .left) (allowed p)
@@ -78,13 +88,15 @@ value-at-spec =
     returns
     (λ c κs. search needs)
     returns-2
-    (λ c. search needs)
-    (λ c. search needs)
-    (λ c. search needs)
     (λ c. omega (arith, within (c .before .before .before)))
+    (λ c. search needs)
+    (λ c. search needs)
+    (λ c. search needs)
+    (λ c. omega (arith, within (c .before .before .before .before)))
     (λ c κs. search needs)
     (λ c. search needs)
     (λ c. search needs)
     returns-3
     returns-4
-    returns-5)
+    returns-5
+    returns-6)
