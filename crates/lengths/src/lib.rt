@@ -14,13 +14,6 @@ pub enum Length {
     Bad,
 }
 
-// A byte as an index: its value, and that it is one of 256.
-fn wide(x: u8) -> usize
-    ensures { λ r. ⌜ (r ≡ x) × (r < 256) ⌝ }
-{
-    x as usize
-}
-
 // The length at `at`: "0 to 127 in one byte, 128 to 255 as 81 xx, 256 to 65,535 as 82 xx xx", and nothing else is one.
 pub fn read_length(c: &[u8], at: usize) -> Length
     ensures { λ r. ⌜ r ≡ lengthAt at (drop at (now (c .entry))) ⌝ }
@@ -28,7 +21,7 @@ pub fn read_length(c: &[u8], at: usize) -> Length
     if c.len() <= at {
         return Length::Bad;
     }
-    let first = wide(c[at]);
+    let first = numbers::index(c[at]);
     if first < 128 {
         return Length::Is(first, at + 1);
     }
@@ -37,7 +30,7 @@ pub fn read_length(c: &[u8], at: usize) -> Length
         if left < 2 {
             return Length::Bad;
         }
-        let low = wide(c[at + 1]);
+        let low = numbers::index(c[at + 1]);
         if low < 128 {
             return Length::Bad;
         }
@@ -47,7 +40,7 @@ pub fn read_length(c: &[u8], at: usize) -> Length
         if left < 3 {
             return Length::Bad;
         }
-        let pair = wide(c[at + 1]) * 256 + wide(c[at + 2]);
+        let pair = numbers::index(c[at + 1]) * 256 + numbers::index(c[at + 2]);
         if pair < 256 {
             return Length::Bad;
         }
