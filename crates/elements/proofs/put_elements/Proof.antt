@@ -1,15 +1,14 @@
--- `report::put_elements` meets its contract: the count, and the lines. Assumes nothing.
+-- `elements::put_elements` meets its contract: the count, and the lines. Assumes nothing.
 use Rattle.laws.proofs.Rooms.{then}
 use borrow.Author.Needs.{needs}
-use Rattle.report.proofs.put_elements.Statement.{statement}
-use Rattle.report.proofs.put_elements.Tie as tie
+use Rattle.elements.proofs.put_elements.Statement.{statement}
+use Rattle.elements.proofs.put_elements.Tie as tie
 
 returns : tie.Need-returns
 returns c =
     let l = c .before .before in
     let n = l .before .before .before .before in
-    let e = n .before .before .element-count .ensures in
-    record { put = λ today vs h. then (rw (e today vs h) at (n .put-count .ensures)) (l .put-lines .ensures .put today vs h); inside = search needs }
+    then (rw (n .before .before .element-count .ensures) at (n .put-count .ensures)) (l .put-lines .ensures)
 
 pub put-elements-spec : {M : Type 1} → statement M
 put-elements-spec =

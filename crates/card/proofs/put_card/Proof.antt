@@ -1,10 +1,10 @@
--- `report::put_card` meets its contract: its lines stand one after the other. Assumes nothing.
+-- `card::put_card` meets its contract: its lines stand one after the other. Assumes nothing.
 use native.Mathlib.Omega.{arith}
 use Rattle.laws.proofs.Rooms.{then, same-room}
-use Rattle.report.specs.Report.{cardPart}
+use Rattle.card.specs.Card.{cardPart}
 use borrow.Author.Needs.{needs}
-use Rattle.report.proofs.put_card.Statement.{statement}
-use Rattle.report.proofs.put_card.Tie as tie
+use Rattle.card.proofs.put_card.Statement.{statement}
+use Rattle.card.proofs.put_card.Tie as tie
 
 returns : tie.Need-returns
 unfolding cardPart

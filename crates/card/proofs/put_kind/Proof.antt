@@ -1,10 +1,10 @@
--- `report::put_kind` meets its contract: an arm for each name. Assumes nothing.
+-- `card::put_kind` meets its contract: an arm for each name. Assumes nothing.
 use mathlib.Core.List.{[]}
 use Rattle.kinds.proofs.Arms.{none-listed}
-use Rattle.report.specs.Report.{names}
+use Rattle.card.specs.Card.{names}
 use borrow.Author.Needs.{needs}
-use Rattle.report.proofs.put_kind.Statement.{statement}
-use Rattle.report.proofs.put_kind.Tie as tie
+use Rattle.card.proofs.put_kind.Statement.{statement}
+use Rattle.card.proofs.put_kind.Tie as tie
 
 returns : tie.Need-returns
 returns c = let p = c .before .before in rw (p .before .before .before .match .keys1) (p .put-all .ensures)

@@ -1,17 +1,17 @@
--- `report::put_count` meets its contract: its pieces stand one after the other. Assumes nothing.
+-- `texts::put_number` meets its contract: its pieces stand one after the other. Assumes nothing.
 use Rattle.laws.proofs.Rooms.{then}
 use borrow.Author.Needs.{needs}
-use Rattle.report.proofs.put_count.Statement.{statement}
-use Rattle.report.proofs.put_count.Tie as tie
+use Rattle.texts.proofs.put_number.Statement.{statement}
+use Rattle.texts.proofs.put_number.Tie as tie
 
 returns : tie.Need-returns
 returns c =
     let c2 = c .before .before in
     let c1 = c2 .before .before .before .before in
-    then (c1 .put-all .ensures) (c2 .put-number .ensures)
+    then (c1 .put-decimal .ensures) (c2 .put-byte .ensures)
 
-pub put-count-spec : {M : Type 1} → statement M
-put-count-spec =
+pub put-number-spec : {M : Type 1} → statement M
+put-number-spec =
     tie.close
     (tie.spec
     (λ c κs. search needs)
