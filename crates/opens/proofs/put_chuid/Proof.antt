@@ -1,9 +1,9 @@
--- `report::put_chuid` meets its contract: its lines stand one after the other. Assumes nothing.
+-- `opens::put_chuid` meets its contract: its lines stand one after the other. Assumes nothing.
 use Rattle.laws.proofs.Rooms.{then}
-use Rattle.report.specs.Report.{openPart}
+use Rattle.opens.specs.Open.{openPart}
 use borrow.Author.Needs.{needs}
-use Rattle.report.proofs.put_chuid.Statement.{statement}
-use Rattle.report.proofs.put_chuid.Tie as tie
+use Rattle.opens.proofs.put_chuid.Statement.{statement}
+use Rattle.opens.proofs.put_chuid.Tie as tie
 
 returns : tie.Need-returns
 unfolding openPart

@@ -1,8 +1,8 @@
--- `report::put_holder` meets its contract: its lines stand one after the other. Assumes nothing.
+-- `opens::put_holder` meets its contract: its lines stand one after the other. Assumes nothing.
 use Rattle.laws.proofs.Rooms.{then}
 use borrow.Author.Needs.{needs}
-use Rattle.report.proofs.put_holder.Statement.{statement}
-use Rattle.report.proofs.put_holder.Tie as tie
+use Rattle.opens.proofs.put_holder.Statement.{statement}
+use Rattle.opens.proofs.put_holder.Tie as tie
 
 returns : tie.Need-returns
 returns c =

@@ -1,9 +1,9 @@
--- `report::day_number` meets its contract. Assumes nothing.
+-- `opens::day_number` meets its contract. Assumes nothing.
 use mathlib.Core.Path.{sym, ap, _∙_}
-use Rattle.report.specs.Writers.{dayNumber}
+use Rattle.opens.specs.Day.{dayNumber}
 use borrow.Author.Needs.{needs}
-use Rattle.report.proofs.day_number.Statement.{statement}
-use Rattle.report.proofs.day_number.Tie as tie
+use Rattle.opens.proofs.day_number.Statement.{statement}
+use Rattle.opens.proofs.day_number.Tie as tie
 
 returns : tie.Need-returns
 returns c = ap dayNumber (sym (c .before .n .given .1) ∙ c .before .before .before .date-of .ensures)

@@ -1,4 +1,4 @@
--- The value with a tag: that of the part with the tag, bytes, and where its row is mandatory one that fits. Assumes nothing.
+-- The value with a tag: bytes, and where its row is mandatory one that fits. Assumes nothing.
 use Prim.Native.Nat.{ℕ}
 use mathlib.Core.Path.{_≡_, refl, sym, _∙_}
 use mathlib.Core.Bool.{false, cond, true≢false}
@@ -13,29 +13,8 @@ use Rattle.lengths.specs.Length.{lengthBytes}
 use Rattle.kinds.specs.Tables.{Entry, Table, may, any}
 use Rattle.kinds.specs.declared.ValueRule.the-variants.{Free}
 use Rattle.container.specs.Container.{Values, tagBytes, encode, Fits, Allowed}
-use Rattle.container.specs.Places.{Part, past, partOf}
 use Rattle.container.proofs.Exact.{bytes-front, bytes-back}
-use Rattle.report.specs.Open.{taggedValue}
-
--- ---- of the part that a view gives
-
-abbrev pub partBytes : Option Part → List ℕ
-partBytes none = []
-partBytes (some p) = p .bytes
-
-pub part-value : (rs : Table) (vs : Values) (at tag : ℕ) → partBytes (partOf rs vs at tag) ≡ taggedValue rs vs tag
-part-value [] vs at tag = refl
-part-value (r ∷ rs) [] at tag = refl
-part-value (r ∷ rs) (none ∷ vs) at tag =
-    elim (which (eqb tag (r .tag))) [
-      | inl q ↦ rw q
-      | inr q ↦ rw q (part-value rs vs at tag)
-    ]
-part-value (r ∷ rs) (some v ∷ vs) at tag =
-    elim (which (eqb tag (r .tag))) [
-      | inl q ↦ rw q
-      | inr q ↦ rw q (part-value rs vs (past (r .tag) at v) tag)
-    ]
+use Rattle.opens.specs.Open.{taggedValue}
 
 -- ---- of a row that must be there
 

@@ -1,11 +1,11 @@
--- `report::put_issuer` meets its contract: its pieces stand one after the other. Assumes nothing.
+-- `opens::put_issuer` meets its contract: its pieces stand one after the other. Assumes nothing.
 use mathlib.Core.List.{[], _∷_, append-assoc}
 use Rattle.laws.proofs.Rooms.{then, same-text}
 use Rattle.texts.specs.Text.{ascii}
-use Rattle.report.specs.Report.{openPart}
+use Rattle.opens.specs.Open.{openPart}
 use borrow.Author.Needs.{needs}
-use Rattle.report.proofs.put_issuer.Statement.{statement}
-use Rattle.report.proofs.put_issuer.Tie as tie
+use Rattle.opens.proofs.put_issuer.Statement.{statement}
+use Rattle.opens.proofs.put_issuer.Tie as tie
 
 returns : tie.Need-returns
 unfolding openPart

@@ -1,8 +1,8 @@
--- `report::put_biometric` meets its contract. Assumes nothing.
-use Rattle.report.specs.Report.{openPart}
+-- `opens::put_biometric` meets its contract. Assumes nothing.
+use Rattle.opens.specs.Open.{openPart}
 use borrow.Author.Needs.{needs}
-use Rattle.report.proofs.put_biometric.Statement.{statement}
-use Rattle.report.proofs.put_biometric.Tie as tie
+use Rattle.opens.proofs.put_biometric.Statement.{statement}
+use Rattle.opens.proofs.put_biometric.Tie as tie
 
 returns : tie.Need-returns
 unfolding openPart

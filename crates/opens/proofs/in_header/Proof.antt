@@ -1,9 +1,9 @@
--- `report::in_header` meets its contract. Assumes nothing.
+-- `opens::in_header` meets its contract. Assumes nothing.
 use mathlib.Core.Path.{_∙_}
-use Rattle.report.proofs.Opens.{no-header}
+use Rattle.opens.proofs.Opens.{no-header}
 use borrow.Author.Needs.{needs}
-use Rattle.report.proofs.in_header.Statement.{statement}
-use Rattle.report.proofs.in_header.Tie as tie
+use Rattle.opens.proofs.in_header.Statement.{statement}
+use Rattle.opens.proofs.in_header.Tie as tie
 
 returns : tie.Need-returns
 returns c = c .decode .ensures ∙ no-header (c .before .before .before .before .args .v .now) (c .before .before .if1 .taken)

@@ -1,11 +1,12 @@
--- 01: "Open values: CHUID agency, system, expires; FINGERS and FACE agency, system; CCC `model 10`; DISCOVERY `policy` with four hex digits; PRINTED
+-- 01: "OPEN (named values)". "Open values: CHUID agency, system, expires; FINGERS and FACE agency, system; CCC `model 10`; DISCOVERY `policy` with four hex digits; PRINTED
 -- `issuer` and tag 06; SECURITY none. Every other value is personal; tags and lengths are open."
 use Prim.Native.Nat.{ℕ}
 use mathlib.Core.Bool.{cond}
 use mathlib.Core.Option.{Option, none, some}
-use mathlib.Core.List.{List, [], _∷_}
+use mathlib.Core.List.{List, [], _∷_, _++_}
 use lib.Dec.{eqb}
-use lib.ListN.{length, getD, take, drop}
+use lib.ListN.{getD, take, drop}
+use Rattle.texts.specs.Text.{ascii, digitsLine, hex2}
 use Rattle.fascn.specs.Reading.{decoded}
 use Rattle.dates.specs.Date.{textNumber}
 use Rattle.kinds.specs.Tables.{Table, table}
@@ -69,8 +70,12 @@ openings = opensModel ∷ opensCard 0x30 0x35 ∷ opensPolicy 0x5F2F ∷ opensIs
 abbrev pub openOf : ℕ → Values → Open
 openOf kind vs = openBy (getD (opensNone ∷ openings) kind opensNone) (taggedValue (table kind) vs)
 
--- which rows are there, and how long their values are: "tags and lengths are open"
-abbrev pub shape : Values → List (Option ℕ)
-shape [] = []
-shape (none ∷ vs) = none ∷ shape vs
-shape (some v ∷ vs) = some (length v) ∷ shape vs
+-- the section, "after its count of lines": "Numbers are decimal without leading zeros, except today and expires (eight digits) and agency and system (four)"
+unfoldable pub openPart : Open → List ℕ
+openPart nothing = ascii "OPEN 0\n"
+openPart model = ascii "OPEN 1\nmodel 10\n"
+openPart (holder agency system) = ascii "OPEN 2\nagency " ++ digitsLine 4 agency ++ (ascii "system " ++ digitsLine 4 system)
+openPart (card agency system expires) =
+    ascii "OPEN 3\nagency " ++ digitsLine 4 agency ++ (ascii "system " ++ digitsLine 4 system) ++ (ascii "expires " ++ digitsLine 8 expires)
+openPart (policy p) = ascii "OPEN 1\npolicy " ++ (hex2 (getD p 0 0) ++ hex2 (getD p 1 0) ++ 10 ∷ [])
+openPart (issuer v) = ascii "OPEN 1\nissuer " ++ (v ++ 10 ∷ [])

@@ -16,8 +16,8 @@ use Rattle.kinds.specs.declared.ValueRule.{ValueRule}
 use Rattle.kinds.specs.declared.ValueRule.the-variants.{Free, Fascn, Uuid, Expiry, Model, Application, Policy, Text, Date, Fingers, Face}
 use Rattle.rules.specs.Rules.{Keeps}
 use Rattle.container.specs.Container.{Values, Allowed}
-use Rattle.report.specs.Open.{Opening, opensNone, opensModel, opensCard, opensPolicy, opensIssuer, opensHolder, openings, taggedValue}
-use Rattle.report.proofs.Valued.{taggedRow, value-fits}
+use Rattle.opens.specs.Open.{Opening, opensNone, opensModel, opensCard, opensPolicy, opensIssuer, opensHolder, openings, taggedValue}
+use Rattle.opens.proofs.Valued.{taggedRow, value-fits}
 
 -- ---- two rules are told apart by their places in a list
 

@@ -1,12 +1,12 @@
--- `report::put_policy` meets its contract: its pieces stand one after the other. Assumes nothing.
+-- `opens::put_policy` meets its contract: its pieces stand one after the other. Assumes nothing.
 use mathlib.Core.List.{[], _∷_}
 use lib.ListN.{getD}
 use Rattle.laws.proofs.Rooms.{then, same-text, first-apart}
 use Rattle.texts.specs.Text.{ascii, hex2}
-use Rattle.report.specs.Report.{openPart}
+use Rattle.opens.specs.Open.{openPart}
 use borrow.Author.Needs.{needs}
-use Rattle.report.proofs.put_policy.Statement.{statement}
-use Rattle.report.proofs.put_policy.Tie as tie
+use Rattle.opens.proofs.put_policy.Statement.{statement}
+use Rattle.opens.proofs.put_policy.Tie as tie
 
 returns : tie.Need-returns
 unfolding openPart
