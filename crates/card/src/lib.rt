@@ -31,7 +31,14 @@ fn put_verdict(verdict: u64, place: usize, out: &mut [u8]) -> usize
 }
 
 // The section, after its count of lines.
-pub fn put_card(kind: u64, size: usize, today: u64, verdict: u64, place: usize, out: &mut [u8]) -> usize
+pub fn put_card(
+    kind: u64,
+    size: usize,
+    today: u64,
+    verdict: u64,
+    place: usize,
+    out: &mut [u8],
+) -> usize
     ensures { λ r. ⌜ Put (cardPart kind size today verdict place) (now (out .entry)) (now (out .exit)) r ⌝ }
 {
     let mut at = room::put_all(b"CARD 4\nkind ", out);

@@ -6,15 +6,15 @@ use mathlib.Core.List.{List, []}
 use native.Mathlib.Nat.{zero-sub}
 use native.Mathlib.Omega.{arith}
 use lib.Dec.{eqb}
-use lib.ListN.{length, take, drop, getD, length-take, length-drop}
+use lib.ListN.{length, drop, getD, length-take, length-drop}
 use borrow.Author.Tests.{eqb-true, ne-eqb}
 use Rattle.laws.specs.Layout.{part}
-use Rattle.laws.proofs.Cases.{which, and-true}
+use Rattle.laws.proofs.Cases.{which}
 use Rattle.fascn.specs.Reading.{decoded}
 use Rattle.dates.specs.Date.{dateOf, textNumber}
 use Rattle.dates.proofs.Dates.{text-exact, text-number}
 use Rattle.kinds.specs.Tables.{table}
-use Rattle.kinds.specs.declared.ValueRule.the-variants.{Fascn, Expiry}
+use Rattle.kinds.specs.declared.ValueRule.the-variants.{Expiry}
 use Rattle.container.specs.Container.{Values, Allowed}
 use Rattle.container.specs.Map.{rowValue, shown}
 use Rattle.opens.specs.Open.{Open, bytesOf, holder, card, policy, issuer, agencyOf, systemOf, inHeader, taggedValue, openOf}

@@ -14,7 +14,6 @@ use Rattle.dates.specs.Date.{textNumber}
 use Rattle.dates.proofs.Dates.{eight-digits, text-number}
 use Rattle.cbeff.specs.Header.{fingers, face}
 use Rattle.cbeff.proofs.Exact.{fascn-inside}
-use Rattle.rules.specs.Rules.{Keeps}
 use Rattle.kinds.specs.Tables.{table}
 use Rattle.kinds.specs.declared.ValueRule.the-variants.{Fascn, Expiry, Fingers, Face}
 use Rattle.texts.specs.Text.{ascii}
