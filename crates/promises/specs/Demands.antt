@@ -30,7 +30,8 @@ use Rattle.container.specs.Container.{Values, Conforms, largest}
 use Rattle.container.specs.Reading.{values, fault, parsed}
 use Rattle.container.specs.InOrder.{Named}
 use Rattle.sheet.specs.Sheet.{IsSheet}
-use Rattle.report.specs.Open.{agencyOf, systemOf, openOf, shape}
+use Rattle.elements.specs.Elements.{shape}
+use Rattle.opens.specs.Open.{agencyOf, systemOf, openOf}
 use Rattle.report.specs.Report.{reportText}
 use Rattle.prosianek.specs.Calls.{Checks, Reads, Writes, Views, Reports, Decodes, Encodes}
 use Rattle.printout.specs.Printout.{refusedText, printed, Asks}

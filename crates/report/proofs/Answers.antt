@@ -1,4 +1,4 @@
--- What `report` answers: 1, 2, 3, 4, or the report; and the report of what was read. Assumes nothing.
+-- What `report` answers: 1, 2, 3, 4, or the report of what was read. Assumes nothing.
 use Prim.Native.Nat.{ℕ, _≤_, _<_}
 use mathlib.Core.Logic.{inl, inr}
 use mathlib.Core.Path.{_≡_}
@@ -12,55 +12,45 @@ use Rattle.laws.proofs.Cases.{which}
 use Rattle.dates.specs.Date.{isDate}
 use Rattle.dates.proofs.Dates.{date-exact}
 use Rattle.kinds.specs.Tables.{isKind}
+use Rattle.verdicts.specs.Verdicts.{found}
 use Rattle.verdicts.specs.Output.{Output, refusal, text}
 use Rattle.verdicts.specs.declared.Fault.{Fault}
 use Rattle.verdicts.specs.declared.Fault.the-variants.{UnknownKind, NoDate, SmallRoom, LargeContainer, LongReport}
-use Rattle.verdicts.specs.declared.Outcome.the-variants.{Broken}
 use Rattle.container.specs.Container.{Values, Conforms, largest}
-use Rattle.container.specs.Reading.{values, fault, outer, parsed, outcome}
+use Rattle.container.specs.Reading.{values, parsed}
 use Rattle.container.proofs.Promise.{kind-exact, conforms-parsed}
-use Rattle.container.proofs.Named.{broken-fault}
 use Rattle.report.specs.Report.{reportText}
 use Rattle.report.specs.Calls.{fitting, reportOutput}
 use Rattle.report.proofs.Bound.{report-length}
 
--- a fault that is judged is what was read
-pub broken-parsed : (kind today : ℕ) (c : List ℕ) {f : Fault} {p : ℕ} → outcome kind today c ≡ Broken f p → parsed kind today c ≡ fault f p
-unfolding outcome
-broken-parsed kind today c {f} {p} e = broken-fault (parsed kind today c) f p e
-
 module _ (kind today : ℕ) (c : List ℕ) (room : ℕ) where
-  pub report-1 : isKind kind ≡ false → reportOutput kind today c room ≡ refusal UnknownKind 0
+  pub report-1 : isKind kind ≡ false → reportOutput kind today c room ≡ refusal (found UnknownKind 0)
   unfolding reportOutput
   report-1 k = rw k
 
   module _ (k : isKind kind ≡ true) where
-    pub report-2 : isDate today ≡ false → reportOutput kind today c room ≡ refusal NoDate 0
+    pub report-2 : isDate today ≡ false → reportOutput kind today c room ≡ refusal (found NoDate 0)
     unfolding reportOutput
     report-2 d = rw (k, d)
 
     module _ (d : isDate today ≡ true) where
-      pub report-3 : room < 512 → reportOutput kind today c room ≡ refusal SmallRoom 0
+      pub report-3 : room < 512 → reportOutput kind today c room ≡ refusal (found SmallRoom 0)
       unfolding reportOutput
       report-3 l = rw (k, d, lt-ltb _ _ l)
 
       module _ (l : 512 ≤ room) where
-        pub report-4 : 32768 < length c → reportOutput kind today c room ≡ refusal LargeContainer 0
+        pub report-4 : largest < length c → reportOutput kind today c room ≡ refusal (found LargeContainer 0)
         unfolding reportOutput
         report-4 g = rw (k, d, le-ltb _ _ l, lt-leb _ _ g)
 
-        module _ (g : length c ≤ 32768) where
-          is-outer : parsed kind today c ≡ outer kind today c
-          unfolding parsed
-          is-outer = rw (k, d, le-leb _ _ g)
-
+        module _ (g : length c ≤ largest) where
           -- no report is over 512 bytes
           pub short : Bytes c → length (reportText kind today (length c) (parsed kind today c)) ≤ 512
-          short b = rw is-outer (report-length kind today c b g)
+          short b = report-length kind today c b g
 
           pub report-0 : Bytes c → reportOutput kind today c room ≡ text (reportText kind today (length c) (parsed kind today c))
           unfolding reportOutput
-          report-0 b = rw (k, d, le-ltb _ _ l, le-leb _ _ g, is-outer, le-ltb _ _ (report-length kind today c b g))
+          report-0 b = rw (k, d, le-ltb _ _ l, le-leb _ _ g, le-ltb _ _ (report-length kind today c b g))
 
   -- of a container that conforms, the report of its values
   pub conforming-output : Bytes c → (vs : Values) → Conforms kind today vs c → 512 ≤ room → reportOutput kind today c room ≡ text (reportText kind today (length c) (values vs))
@@ -68,7 +58,7 @@ module _ (kind today : ℕ) (c : List ℕ) (room : ℕ) where
       rw (conforms-parsed kind today c b vs h) at (report-0 (kind-exact kind .1 (h .kind-is)) (date-exact today .1 (h .date-is)) l (h .size-is) b)
 
   -- all that a call can answer: a refusal without a place, or a whole report in a room of at least 512 bytes
-  pub report-cases : (P : Output → Type 0) → ((f : Fault) → P (refusal f 0)) → ((t : List ℕ) → 512 ≤ room → length t ≤ 512 → P (text t)) → P (reportOutput kind today c room)
+  pub report-cases : (P : Output → Type 0) → ((f : Fault) → P (refusal (found f 0))) → ((t : List ℕ) → 512 ≤ room → length t ≤ 512 → P (text t)) → P (reportOutput kind today c room)
   unfolding reportOutput
   report-cases P refuse give =
       elim (which (isKind kind)) [
@@ -79,7 +69,7 @@ module _ (kind today : ℕ) (c : List ℕ) (room : ℕ) where
                     | inl l ↦ rw (k, d, l) (refuse SmallRoom)
                     | inr l ↦
                         elim (which (leb (length c) largest)) [
-                          | inl g ↦ rw (k, d, l, g) (fits (reportText kind today (length c) (outer kind today c)) (ltb-false _ _ l))
+                          | inl g ↦ rw (k, d, l, g) (fits (reportText kind today (length c) (parsed kind today c)) (ltb-false _ _ l))
                           | inr g ↦ rw (k, d, l, g) (refuse LargeContainer)
                         ]
                   ]

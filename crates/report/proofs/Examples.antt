@@ -14,10 +14,14 @@ use Rattle.dates.specs.Date.{isDate, dateOf}
 use Rattle.lengths.specs.Length.{readLength}
 use Rattle.plain.specs.Plain.{isUuid, isPolicy}
 use Rattle.rules.specs.Rules.{ruleOf}
+use Rattle.verdicts.specs.Verdicts.{found}
 use Rattle.verdicts.specs.Output.{refusal, text}
 use Rattle.verdicts.specs.declared.Fault.the-variants.{SmallRoom}
-use Rattle.container.specs.Reading.{element}
-use Rattle.report.specs.Report.{cardPart, elementLines, elementCount, openPart, reportText}
+use Rattle.container.specs.Reading.{element, located, parsed}
+use Rattle.card.specs.Card.{cardPart}
+use Rattle.elements.specs.Elements.{elementLines, elementCount}
+use Rattle.opens.specs.Open.{openPart}
+use Rattle.report.specs.Report.{reportText}
 use Rattle.report.specs.Calls.{reportOutput}
 
 -- "CHUID with the FASC-N of P1, a valid GUID, expiry 20300131, empty 3E and FE, 61 bytes"
@@ -32,12 +36,12 @@ r-long = refl
 
 pub r-report : reportOutput 2 20260301 case-r 512
     ≡ text (ascii "CARD 4\nkind CHUID\nbytes 61\ntoday 20260301\nverdict 0 0\nELEMENTS 5\n30 25\n34 16\n35 8\n3E 0\nFE 0\nOPEN 3\nagency 1234\nsystem 0001\nexpires 20300131\n")
-unfolding reportOutput reportText cardPart elementLines elementCount openPart fixed decimal hex2 hexTag digits decoded valuesOf framed exclusive ones isFascn isDate exists daysIn dateOf readLength element ruleOf isUuid
+unfolding reportOutput parsed located reportText cardPart elementLines elementCount openPart fixed decimal hex2 hexTag digits decoded valuesOf framed exclusive ones isFascn isDate exists daysIn dateOf readLength element ruleOf isUuid
 r-report = refl
 
 -- "rooms of 511 and 512"
-pub r-small : reportOutput 2 20260301 case-r 511 ≡ refusal SmallRoom 0
-unfolding reportOutput isDate exists daysIn
+pub r-small : reportOutput 2 20260301 case-r 511 ≡ refusal (found SmallRoom 0)
+unfolding reportOutput parsed located isDate exists daysIn
 r-small = refl
 
 -- P13, and P14: "number 20, place 15"
@@ -47,10 +51,10 @@ discovery first =
 
 pub p13-report : reportOutput 3 20260301 (discovery 0x40) 512
     ≡ text (ascii "CARD 4\nkind DISCOVERY\nbytes 20\ntoday 20260301\nverdict 0 0\nELEMENTS 2\n4F 11\n5F2F 2\nOPEN 1\npolicy 4000\n")
-unfolding reportOutput reportText cardPart elementLines elementCount openPart fixed decimal hex2 hexTag digits isDate exists daysIn readLength element ruleOf isPolicy
+unfolding reportOutput parsed located reportText cardPart elementLines elementCount openPart fixed decimal hex2 hexTag digits isDate exists daysIn readLength element ruleOf isPolicy
 p13-report = refl
 
 pub p14-report : reportOutput 3 20260301 (discovery 0x60) 512
     ≡ text (ascii "CARD 4\nkind DISCOVERY\nbytes 20\ntoday 20260301\nverdict 20 15\nELEMENTS 0\nOPEN 0\n")
-unfolding reportOutput reportText cardPart fixed decimal digits isDate exists daysIn readLength element ruleOf isPolicy
+unfolding reportOutput parsed located reportText cardPart fixed decimal digits isDate exists daysIn readLength element ruleOf isPolicy
 p14-report = refl

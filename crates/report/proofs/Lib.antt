@@ -1,8 +1,4 @@
-pub mod Valued
-pub mod Openings
 pub mod Bound
-pub mod Lines
-pub mod Opens
 pub mod Answers
 pub mod Same
 pub mod Converse

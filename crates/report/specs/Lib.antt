@@ -1,4 +1,2 @@
 pub mod Report
 pub mod Calls
-pub mod Open
-pub mod Writers

@@ -1,6 +1,6 @@
 -- Numbers, bytes and tags are read back from their texts. Assumes nothing.
 --     number-reads   a number and the mark that ends it, which is below the digits (32 or 10)
---     fixed-reads    so many digits
+--     fixed-reads    so many digits, and line-reads with the line end
 --     hex-reads      a byte
 --     tag-reads      a tag and the space that ends it: it tells two digits from four
 --     raw-reads      bytes as they are, as many in both
@@ -15,9 +15,9 @@ use lib.ListN.{length}
 use Rattle.laws.specs.Digits.{digits, readOn}
 use Rattle.laws.proofs.Bases.{value-digits}
 use Rattle.laws.proofs.Cases.{test}
-use Rattle.texts.specs.Text.{digit, fixed, decimalIn, decimal, hexDigit, hex2, hexTag}
+use Rattle.texts.specs.Text.{digit, fixed, decimalIn, decimal, number, digitsLine, hexDigit, hex2, hexTag}
 use Rattle.texts.proofs.Bounds.{fixed-length, hex-length}
-use Rattle.texts.proofs.Reading.{Reads, so, Without, without-append, ended-reads, long-reads}
+use Rattle.texts.proofs.Reading.{Reads, and, given, so, Without, without-append, ended-reads, long-reads}
 
 -- ---- decimal digits
 
@@ -123,11 +123,14 @@ module _ (mark : ℕ) (low : mark < 48) where
 
 -- ---- read along
 
-pub number-reads : (mark : ℕ) → mark < 48 → (m n : ℕ) → Reads (decimal m ++ mark ∷ []) (decimal n ++ mark ∷ []) (m ≡ n)
+pub number-reads : (mark : ℕ) → mark < 48 → (m n : ℕ) → Reads (number m mark) (number n mark) (m ≡ n)
 number-reads mark low m n = so (decimal-inj m n) (ended-reads mark (decimal m) (decimal n) (decimal-without mark low m) (decimal-without mark low n))
 
 pub fixed-reads : (w m n : ℕ) → m < 10 ^ w → n < 10 ^ w → Reads (fixed w m) (fixed w n) (m ≡ n)
 fixed-reads w m n g h = so (fixed-inj w m n g h) (long-reads (fixed w m) (fixed w n) (fixed-length w m ∙ sym (fixed-length w n)))
+
+pub line-reads : (w m n : ℕ) → m < 10 ^ w → n < 10 ^ w → Reads (digitsLine w m) (digitsLine w n) (m ≡ n)
+line-reads w m n g h = so (λ r. r .0) (and (fixed-reads w m n g h) (given (10 ∷ [])))
 
 pub hex-reads : (a b : ℕ) → a < 256 → b < 256 → Reads (hex2 a) (hex2 b) (a ≡ b)
 hex-reads a b g h = so (hex-inj a b g h) (long-reads (hex2 a) (hex2 b) (hex-length a ∙ sym (hex-length b)))

@@ -32,6 +32,13 @@ decimalIn (suc f) n = cond (ltb n 10) (digit (n % 10) ∷ []) (decimalIn f (n / 
 unfoldable pub decimal : ℕ → List ℕ
 decimal n = decimalIn n n
 
+-- a number without leading zeros, and the mark that ends it; a number of w digits and a line end
+abbrev pub number : ℕ → ℕ → List ℕ
+number n mark = decimal n ++ mark ∷ []
+
+abbrev pub digitsLine : ℕ → ℕ → List ℕ
+digitsLine w n = fixed w n ++ 10 ∷ []
+
 -- a byte as two hex digits, and a tag as two or four
 unfoldable pub hex2 : ℕ → List ℕ
 hex2 b = hexDigit (b / 16 % 16) ∷ hexDigit (b % 16) ∷ []

@@ -2,10 +2,12 @@
 // without leading zeros, except today and expires (eight digits) and agency and system (four)." Where the room ends, so
 // does the text: no writer asks anything of its caller.
 ghost use mathlib.Core.Path.{_≡_};
+ghost use mathlib.Core.List.{_++_};
 ghost use Prim.Native.Nat.{_<_};
 ghost use lib.ListN.{set};
 ghost use Rattle.laws.specs.Room.{Put};
-ghost use Rattle.texts.specs.Text.{fixed, decimal, hexDigit, hex2, hexTag};
+ghost use Rattle.texts.specs.Text.{fixed, decimal, number, digitsLine, hexDigit, hex2, hexTag};
+use room::put_all;
 use room::put_byte;
 
 // One byte at its place, where the room has that place.
@@ -53,6 +55,31 @@ pub fn put_decimal(n: u64, out: &mut [u8]) -> usize
     ensures { λ r. ⌜ Put (decimal n) (now (out .entry)) (now (out .exit)) r ⌝ }
 {
     put_fixed(places(n), n, out)
+}
+
+// A number without leading zeros, and the mark that ends it.
+pub fn put_number(n: u64, mark: u8, out: &mut [u8]) -> usize
+    ensures { λ r. ⌜ Put (number n mark) (now (out .entry)) (now (out .exit)) r ⌝ }
+{
+    let at = put_decimal(n, out);
+    at + put_byte(mark, &mut out[at..])
+}
+
+// A line: a name, and a number without leading zeros.
+pub fn put_count(name: &[u8], n: u64, out: &mut [u8]) -> usize
+    ensures { λ r. ⌜ Put (now (name .entry) ++ number n 10) (now (out .entry)) (now (out .exit)) r ⌝ }
+{
+    let at = put_all(name, out);
+    at + put_number(n, b'\n', &mut out[at..])
+}
+
+// A line: a name, and a number of so many digits.
+pub fn put_digits(name: &[u8], width: usize, n: u64, out: &mut [u8]) -> usize
+    ensures { λ r. ⌜ Put (now (name .entry) ++ digitsLine width n) (now (out .entry)) (now (out .exit)) r ⌝ }
+{
+    let mut at = put_all(name, out);
+    at += put_fixed(width, n, &mut out[at..]);
+    at + put_byte(b'\n', &mut out[at..])
 }
 
 // "Hex is upper case": 0 to 9, and A to F.

@@ -1,10 +1,12 @@
 -- `report::put_broken` meets its contract: its parts stand one after the other. Assumes nothing.
-use Rattle.laws.proofs.Rooms.{then}
 use borrow.Author.Needs.{needs}
+use Rattle.laws.proofs.Rooms.{then}
+use Rattle.report.specs.Report.{reportText}
 use Rattle.report.proofs.put_broken.Statement.{statement}
 use Rattle.report.proofs.put_broken.Tie as tie
 
 returns : tie.Need-returns
+unfolding reportText
 returns c =
     let e = c .before .before in
     let p = e .before .before .before .before .before in

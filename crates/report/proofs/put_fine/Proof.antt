@@ -1,18 +1,20 @@
 -- `report::put_fine` meets its contract: its parts stand one after the other. Assumes nothing.
-use Rattle.laws.proofs.Rooms.{then}
 use borrow.Author.Needs.{needs}
+use Rattle.laws.proofs.Rooms.{then}
+use Rattle.elements.proofs.Shapes.{map-shape}
+use Rattle.report.specs.Report.{reportText}
 use Rattle.report.proofs.put_fine.Statement.{statement}
 use Rattle.report.proofs.put_fine.Tie as tie
 
 returns : tie.Need-returns
+unfolding reportText
 returns c =
     let o = c .before .before in
     let e = o .before .before .before .before in
     let p = e .before .before .before .before in
-    record {
-      put = λ today vs h. then (then (p .put-card .ensures) (e .put-elements .ensures .put today vs h)) (o .put-open .ensures .put today vs h);
-      inside = search needs;
-    }
+    let s = p .before .before .before .before in
+    let a = s .args in
+    then (then (p .put-card .ensures) (rw (← map-shape (a .kind) (a .map) (a .c .now) (s .pre .0)) at (e .put-elements .ensures))) (o .put-open .ensures)
 
 pub put-fine-spec : {M : Type 1} → statement M
 put-fine-spec =

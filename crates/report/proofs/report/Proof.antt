@@ -29,42 +29,45 @@ a-date f = sym (f .before .is-date .ensures) ∙ not-false _ (f .if2 .left)
 
 returns : tie.Need-returns
 returns c =
-    let z = c .before .before .before .before .before in
+    let i = c .before .before .before in
+    let z = i .before .before .before in
     let a = z .before .before .before .before .args in
-    refuses (a .room .now) (report-1 (a .kind) (a .today) (a .container .now) _ (sym (c .before .before .is-kind .ensures) ∙ not-true _ (c .before .if1 .taken))) (z .clear .ensures) (c .refused .ensures)
+    refuses (a .room .now) (report-1 (a .kind) (a .today) (a .container .now) _ (sym (i .is-kind .ensures) ∙ not-true _ (c .before .before .if1 .taken))) (z .clear .ensures)
+    (rw (c .before .found .ensures) at (c .refused .ensures))
 
 returns-2 : tie.Need-returns-2
 returns-2 c =
-    let i = c .before .before in
+    let i = c .before .before .before in
     let e = i .before in
     let z = e .before .before .before .before in
     let a = z .before .before .before .before .args in
-    refuses (a .room .now) (report-2 (a .kind) (a .today) (a .container .now) _ (a-kind e) (sym (i .is-date .ensures) ∙ not-true _ (c .before .if2 .taken))) (z .clear .ensures) (c .refused2 .ensures)
+    refuses (a .room .now) (report-2 (a .kind) (a .today) (a .container .now) _ (a-kind e) (sym (i .is-date .ensures) ∙ not-true _ (c .before .before .if2 .taken))) (z .clear .ensures)
+    (rw (c .before .found2 .ensures) at (c .refused2 .ensures))
 
 returns-3 : tie.Need-returns-3
 returns-3 c =
-    let t = c .before in
+    let t = c .before .before in
     let f = t .before in
     let e = f .before .before in
     let z = e .before .before .before .before in
     let a = z .before .before .before .before .args in
     let l : length (a .room .now) < 512 = omega (arith, t .if3 .taken) in
-    refuses (a .room .now) (report-3 (a .kind) (a .today) (a .container .now) _ (a-kind e) (a-date f) l) (z .clear .ensures) (c .refused3 .ensures)
+    refuses (a .room .now) (report-3 (a .kind) (a .today) (a .container .now) _ (a-kind e) (a-date f) l) (z .clear .ensures) (rw (c .before .found3 .ensures) at (c .refused3 .ensures))
 
 returns-4 : tie.Need-returns-4
 returns-4 c =
-    let t = c .before in
+    let t = c .before .before in
     let g = t .before in
     let f = g .before in
     let e = f .before .before in
     let z = e .before .before .before .before in
     let a = z .before .before .before .before .args in
     let l : 512 ≤ length (a .room .now) = omega (arith, g .if3 .left) in
-    refuses (a .room .now) (report-4 (a .kind) (a .today) (a .container .now) _ (a-kind e) (a-date f) l (t .if4 .taken)) (z .clear .ensures) (c .refused4 .ensures)
+    refuses (a .room .now) (report-4 (a .kind) (a .today) (a .container .now) _ (a-kind e) (a-date f) l (t .if4 .taken)) (z .clear .ensures) (rw (c .before .found4 .ensures) at (c .refused4 .ensures))
 
 returns-5 : tie.Need-returns-5
 returns-5 c =
-    let t = c .before .before .before .before .before in
+    let t = c .before .before .before .before .before .before in
     let p = t .before .before .before in
     let s = p .before .before in
     let g = s .before in
@@ -98,18 +101,23 @@ report-spec =
     (λ c κs. search needs)
     (λ c κs. search needs)
     (λ c κs. search needs)
+    (λ c κs. search needs)
     (λ c. search needs)
     returns
+    (λ c κs. search needs)
     (λ c κs. search needs)
     (λ c κs. search needs)
     (λ c. search needs)
     returns-2
     (λ c κs. search needs)
+    (λ c κs. search needs)
     (λ c. search needs)
     returns-3
     (λ c κs. search needs)
+    (λ c κs. search needs)
     (λ c. search needs)
     returns-4
+    (λ c κs. search needs)
     (λ c κs. search needs)
     (λ c κs. search needs)
     (λ c κs. search needs)

@@ -1,0 +1,31 @@
+-- `card::put_verdict` meets its contract: its pieces stand one after the other. Assumes nothing.
+use Rattle.laws.proofs.Rooms.{then}
+use borrow.Author.Needs.{needs}
+use Rattle.card.proofs.put_verdict.Statement.{statement}
+use Rattle.card.proofs.put_verdict.Tie as tie
+
+returns : tie.Need-returns
+returns c =
+    let c3 = c .before .before in
+    let c2 = c3 .before .before .before .before in
+    let c1 = c2 .before .before .before .before in
+    then (then (c1 .put-all .ensures) (c2 .put-number .ensures)) (c3 .put-number2 .ensures)
+
+pub put-verdict-spec : {M : Type 1} → statement M
+put-verdict-spec =
+    tie.close
+    (tie.spec
+    (λ c. search needs)
+    (λ c κs. search needs)
+    (λ c. search needs)
+    (λ c. search needs)
+    (λ c. search needs)
+    (λ c κs. search needs)
+    (λ c. search needs)
+    (λ c. search needs)
+    (λ c. search needs)
+    (λ c. search needs)
+    (λ c κs. search needs)
+    (λ c. search needs)
+    (λ c. search needs)
+    returns)

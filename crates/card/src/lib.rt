@@ -1,0 +1,49 @@
+// The report's first section: "CARD (kind, bytes in the container, today, verdict number and place)", as text into a lent
+// room. Where the room ends, so does the text: no writer asks anything of its caller.
+ghost use mathlib.Core.List.{[], _∷_, _++_};
+ghost use Rattle.laws.specs.Room.{Put};
+ghost use Rattle.texts.specs.Text.{ascii, number};
+ghost use Rattle.card.specs.Card.{kindName, cardPart};
+
+// "1 CCC, 2 CHUID, 3 DISCOVERY, 4 PRINTED, 5 SECURITY, 6 FINGERS, 7 FACE", and the line's end.
+fn put_kind(kind: u64, out: &mut [u8]) -> usize
+    ensures { λ r. ⌜ Put (kindName kind ++ 10 ∷ []) (now (out .entry)) (now (out .exit)) r ⌝ }
+{
+    match kind {
+        1 => room::put_all(b"CCC\n", out),
+        2 => room::put_all(b"CHUID\n", out),
+        3 => room::put_all(b"DISCOVERY\n", out),
+        4 => room::put_all(b"PRINTED\n", out),
+        5 => room::put_all(b"SECURITY\n", out),
+        6 => room::put_all(b"FINGERS\n", out),
+        7 => room::put_all(b"FACE\n", out),
+        _ => room::put_all(b"\n", out),
+    }
+}
+
+// "verdict number and place"
+fn put_verdict(verdict: u64, place: usize, out: &mut [u8]) -> usize
+    ensures { λ r. ⌜ Put (ascii "verdict " ++ number verdict 32 ++ number place 10) (now (out .entry)) (now (out .exit)) r ⌝ }
+{
+    let mut at = room::put_all(b"verdict ", out);
+    at += texts::put_number(verdict, b' ', &mut out[at..]);
+    at + texts::put_number(place as u64, b'\n', &mut out[at..])
+}
+
+// The section, after its count of lines.
+pub fn put_card(
+    kind: u64,
+    size: usize,
+    today: u64,
+    verdict: u64,
+    place: usize,
+    out: &mut [u8],
+) -> usize
+    ensures { λ r. ⌜ Put (cardPart kind size today verdict place) (now (out .entry)) (now (out .exit)) r ⌝ }
+{
+    let mut at = room::put_all(b"CARD 4\nkind ", out);
+    at += put_kind(kind, &mut out[at..]);
+    at += texts::put_count(b"bytes ", size as u64, &mut out[at..]);
+    at += texts::put_digits(b"today ", 8, today, &mut out[at..]);
+    at + put_verdict(verdict, place, &mut out[at..])
+}

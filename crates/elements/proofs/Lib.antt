@@ -1,0 +1,4 @@
+pub mod Lines
+pub mod Shapes
+pub mod Bound
+pub mod Reading

@@ -1,0 +1,50 @@
+-- The value with a tag: bytes, and where its row is mandatory one that fits. Assumes nothing.
+use Prim.Native.Nat.{ℕ}
+use mathlib.Core.Path.{_≡_, sym, _∙_}
+use mathlib.Core.Bool.{false, cond, true≢false}
+use mathlib.Core.Logic.{inl, inr}
+use mathlib.Core.Option.{none, some}
+use mathlib.Core.List.{[], _∷_, _++_}
+use lib.Dec.{eqb}
+use lib.ListN.{length}
+use Rattle.laws.specs.Bytes.{Bytes}
+use Rattle.laws.proofs.Cases.{test, which}
+use Rattle.lengths.specs.Length.{lengthBytes}
+use Rattle.kinds.specs.Tables.{Entry, Table, may, any}
+use Rattle.kinds.specs.declared.ValueRule.the-variants.{Free}
+use Rattle.container.specs.Container.{Values, tagBytes, encode, Fits, Allowed}
+use Rattle.container.proofs.Exact.{bytes-front, bytes-back}
+use Rattle.opens.specs.Open.{taggedValue}
+
+-- ---- of a row that must be there
+
+-- the row with a tag; where there is none, a row that asks for nothing
+abbrev pub taggedRow : Table → ℕ → Entry
+taggedRow [] tag = may tag any Free
+taggedRow (r ∷ rs) tag = cond (eqb tag (r .tag)) r (taggedRow rs tag)
+
+pub value-fits : (today tag : ℕ) (rs : Table) (vs : Values) → taggedRow rs tag .optional ≡ false → Allowed today rs vs
+    → Fits today (taggedRow rs tag) (taggedValue rs vs tag)
+value-fits today tag [] vs o a = absurd (true≢false o)
+value-fits today tag (r ∷ rs) [] o a = absurd a
+value-fits today tag (r ∷ rs) (none ∷ vs) o a =
+    elim (which (eqb tag (r .tag))) [
+      | inl q ↦ absurd (true≢false (sym (a .0) ∙ rw q at o))
+      | inr q ↦ rw q (value-fits today tag rs vs (rw q at o) (a .1))
+    ]
+value-fits today tag (r ∷ rs) (some v ∷ vs) o a =
+    elim (which (eqb tag (r .tag))) [
+      | inl q ↦ rw q (a .0)
+      | inr q ↦ rw q (value-fits today tag rs vs (rw q at o) (a .1))
+    ]
+
+-- ---- of a container of bytes
+
+pub value-bytes : (tag : ℕ) (rs : Table) (vs : Values) → Bytes (encode rs vs) → Bytes (taggedValue rs vs tag)
+value-bytes tag [] vs b = tt
+value-bytes tag (r ∷ rs) [] b = tt
+value-bytes tag (r ∷ rs) (none ∷ vs) b =
+    test (eqb tag (r .tag)) (λ q. Bytes (cond q [] (taggedValue rs vs tag))) (λ q. tt) (λ q. value-bytes tag rs vs b)
+value-bytes tag (r ∷ rs) (some v ∷ vs) b =
+    let c : Bytes (v ++ encode rs vs) = bytes-back (lengthBytes (length v)) (v ++ encode rs vs) (bytes-back (tagBytes (r .tag)) (lengthBytes (length v) ++ (v ++ encode rs vs)) b) in
+    test (eqb tag (r .tag)) (λ q. Bytes (cond q v (taggedValue rs vs tag))) (λ q. bytes-front v (encode rs vs) c) (λ q. value-bytes tag rs vs (bytes-back v (encode rs vs) c))

@@ -1,0 +1,102 @@
+-- `opens::put_open` meets its contract: an arm for each kind. Assumes nothing.
+use mathlib.Core.Path.{ap}
+use borrow.Author.Needs.{needs}
+use Rattle.laws.proofs.Rooms.{same-text}
+use Rattle.kinds.proofs.Arms.{none-listed}
+use Rattle.opens.specs.Open.{opensNone, openings, openPart}
+use Rattle.opens.proofs.Opens.{card-open, policy-open, issuer-open, fingers-open, face-open}
+use Rattle.opens.proofs.put_open.Statement.{statement}
+use Rattle.opens.proofs.put_open.Tie as tie
+
+returns : tie.Need-returns
+unfolding openPart
+returns c = let p = c .before .before in rw (p .before .before .before .match .keys1) (p .put-all .ensures)
+
+returns-2 : tie.Need-returns-2
+returns-2 c =
+    let p = c .before .before in
+    let e = p .before .before in
+    let f = e .before in
+    let k = f .before .match .keys2 in
+    let s = f .before .before .before .before in
+    let m = s .args .map in
+    let (today, a) = s .pre .1 in
+    rw k (same-text (ap openPart (card-open (m .from) (m .to) (s .args .c .now) today (rw k at a))) (rw (f .part .ensures .0, e .part2 .ensures .0) at (p .put-chuid .ensures)))
+
+returns-3 : tie.Need-returns-3
+returns-3 c =
+    let p = c .before .before in
+    let v = p .before .before in
+    let s = v .before .before .before .before in
+    let m = s .args .map in
+    rw (v .before .match .keys3) (same-text (ap openPart (policy-open (m .from) (m .to) (s .args .c .now))) (rw (v .part3 .ensures .0) at (p .put-policy .ensures)))
+
+returns-4 : tie.Need-returns-4
+returns-4 c =
+    let p = c .before .before in
+    let v = p .before .before in
+    let s = v .before .before .before .before in
+    let m = s .args .map in
+    rw (v .before .match .keys4) (same-text (ap openPart (issuer-open (m .from) (m .to) (s .args .c .now))) (rw (v .part4 .ensures .0) at (p .put-issuer .ensures)))
+
+returns-5 : tie.Need-returns-5
+unfolding openPart
+returns-5 c = let p = c .before .before in rw (p .before .before .before .match .keys5) (p .put-all2 .ensures)
+
+returns-6 : tie.Need-returns-6
+returns-6 c =
+    let p = c .before .before in
+    let v = p .before .before in
+    let s = v .before .before .before .before in
+    let m = s .args .map in
+    rw (v .before .match .keys6) (same-text (ap openPart (fingers-open (m .from) (m .to) (s .args .c .now))) (rw (v .part5 .ensures .0) at (p .put-biometric .ensures)))
+
+returns-7 : tie.Need-returns-7
+returns-7 c =
+    let p = c .before .before in
+    let v = p .before .before in
+    let s = v .before .before .before .before in
+    let m = s .args .map in
+    rw (v .before .match .keys7) (same-text (ap openPart (face-open (m .from) (m .to) (s .args .c .now))) (rw (v .part6 .ensures .0) at (p .put-biometric2 .ensures)))
+
+returns-8 : tie.Need-returns-8
+unfolding openPart
+returns-8 c = let p = c .before .before in rw (← none-listed openings opensNone _ (p .before .before .before .match .rest)) (p .put-all3 .ensures)
+
+pub put-open-spec : {M : Type 1} → statement M
+put-open-spec =
+    tie.close
+    (tie.spec
+    (λ c. search needs)
+    (λ c κs. search needs)
+    (λ c κs. search needs)
+    (λ c κs. search needs)
+    (λ c κs. search needs)
+    (λ c κs. search needs)
+    (λ c κs. search needs)
+    (λ c κs. search needs)
+    (λ c κs. search needs)
+    (λ c. search needs)
+    (λ c κs. search needs)
+    (λ c κs. search needs)
+    (λ c κs. search needs)
+    (λ c κs. search needs)
+    (λ c κs. search needs)
+    (λ c. search needs)
+    (λ c κs. search needs)
+    (λ c. search needs)
+    returns
+    (λ c. search needs)
+    returns-2
+    (λ c. search needs)
+    returns-3
+    (λ c. search needs)
+    returns-4
+    (λ c. search needs)
+    returns-5
+    (λ c. search needs)
+    returns-6
+    (λ c. search needs)
+    returns-7
+    (λ c. search needs)
+    returns-8)
