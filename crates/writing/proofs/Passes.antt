@@ -24,6 +24,7 @@ use Rattle.verdicts.specs.declared.Ruling.the-variants.{Kept, Breaks}
 use Rattle.verdicts.specs.declared.Outcome.{Outcome}
 use Rattle.verdicts.specs.declared.Outcome.the-variants.{Fine, Broken}
 use Rattle.container.specs.Container.{Values, tagBytes, has, encode}
+use Rattle.verdicts.specs.Verdicts.{found}
 use Rattle.container.proofs.Rows.{Distinct}
 use Rattle.container.proofs.Tags.{distinct, tags, Plain, Tags, short, double}
 use Rattle.writing.specs.Writing.{ahead, opened, keptOr, judged}
@@ -169,7 +170,7 @@ module _ (kind today n : ℕ) (s : List ℕ) (at : ℕ) where
   unfolding judgedFrom
   judged-end h = rw (drop-of-length-le s h, held-none (drop n (table kind))) (judged-none today (drop n (table kind)) at)
 
-  pub judged-missing : {o : Bool} → Skipped kind n s at o → o ≡ false → Broken MissingRow at ≡ judgedFrom kind today s at n
+  pub judged-missing : {o : Bool} → Skipped kind n s at o → o ≡ false → Broken (found MissingRow at) ≡ judgedFrom kind today s at n
   unfolding judgedFrom
   judged-missing k e = rw (k .holds, k .split, k .is, e)
 
@@ -187,7 +188,7 @@ module _ (kind today n : ℕ) (s : List ℕ) (at : ℕ) where
         rw (q, k .holds, k .split)
         (judged-some today (k .row) (drop (n + 1) (table kind)) (valueIn s at to) (held (drop (n + 1) (table kind)) (drop to s)) at to a)
 
-    pub judged-broken : {f : Fault} → Breaks f ≡ judgedBy (rowOf kind tag) today (valueIn s at to) → Broken f at ≡ judgedFrom kind today s at n
+    pub judged-broken : {f : Fault} → Breaks f ≡ judgedBy (rowOf kind tag) today (valueIn s at to) → Broken (found f at) ≡ judgedFrom kind today s at n
     judged-broken e = rw (← e) at judged-value
 
     pub judged-kept : Kept ≡ judgedBy (rowOf kind tag) today (valueIn s at to) → judgedFrom kind today s to (n + 1) ≡ judgedFrom kind today s at n

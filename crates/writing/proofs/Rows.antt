@@ -16,7 +16,9 @@ use Rattle.kinds.specs.declared.Slot.the-variants.{End}
 use Rattle.writing.specs.Writing.{ahead, opened}
 use Rattle.writing.specs.Sections.{here, sectionAt, held}
 use Rattle.writing.specs.declared.Section.the-variants.{Torn, Absent, Value}
-use Rattle.container.proofs.Walk.{dropped}
+
+dropped : {A : Type 0} (n : ℕ) (l : List A) {x : A} {xs : List A} → drop n l ≡ x ∷ xs → drop (n + 1) l ≡ xs
+dropped n l e = sym (drop-drop 1 n l) ∙ ap (drop 1) e
 
 -- ---- a section, by rows and bytes
 

@@ -13,8 +13,9 @@ use Rattle.laws.proofs.Cases.{which, no-some}
 use Rattle.dates.specs.Date.{isDate}
 use Rattle.kinds.specs.Tables.{Table, table, isKind}
 use Rattle.lengths.specs.Length.{lengthBytes}
+use Rattle.verdicts.specs.Verdicts.{found}
 use Rattle.verdicts.specs.Output.{refusal, text}
-use Rattle.verdicts.specs.declared.Fault.{Fault}
+use Rattle.verdicts.specs.declared.Finding.{Finding}
 use Rattle.verdicts.specs.declared.Fault.the-variants.{UnknownKind, NoDate, SmallRoom, LargeContainer, TornSheet}
 use Rattle.verdicts.specs.declared.Outcome.the-variants.{Fine, Broken}
 use Rattle.container.specs.Container.{Values, encode, outerTag, container}
@@ -50,19 +51,19 @@ opened-held (r ∷ rs) (a ∷ b ∷ s) vs e =
 -- ---- 1, 2
 
 module _ (kind today : ℕ) (s : List ℕ) (room : ℕ) where
-  pub bad-kind : isKind kind ≡ false → writeOutput kind today s room ≡ refusal UnknownKind 0
+  pub bad-kind : isKind kind ≡ false → writeOutput kind today s room ≡ refusal (found UnknownKind 0)
   unfolding writeOutput
   bad-kind k = rw k
 
   module _ (k : isKind kind ≡ true) where
-    pub bad-date : isDate today ≡ false → writeOutput kind today s room ≡ refusal NoDate 0
+    pub bad-date : isDate today ≡ false → writeOutput kind today s room ≡ refusal (found NoDate 0)
     unfolding writeOutput
     bad-date d = rw (k, d)
 
     -- ---- 5
 
     module _ (d : isDate today ≡ true) where
-      pub torn-sheet : Cut ≡ bodyOf (table kind) (opened (table kind) s) → writeOutput kind today s room ≡ refusal TornSheet 0
+      pub torn-sheet : Cut ≡ bodyOf (table kind) (opened (table kind) s) → writeOutput kind today s room ≡ refusal (found TornSheet 0)
       unfolding writeOutput
       torn-sheet b = rw (k, d, go (opened (table kind) s) b)
         where
@@ -87,7 +88,7 @@ module _ (kind today : ℕ) (s : List ℕ) (room : ℕ) where
 
         -- ---- 15, 16, the value's rules
 
-        pub broken : {f : Fault} {p : ℕ} → Broken f p ≡ judged today (table kind) vs 0 → writeOutput kind today s room ≡ refusal f p
+        pub broken : {f : Finding} → Broken f ≡ judged today (table kind) vs 0 → writeOutput kind today s room ≡ refusal f
         unfolding writeOutput
         broken j = rw (k, d, whole .0, ← j)
 
@@ -101,14 +102,14 @@ module _ (kind today : ℕ) (s : List ℕ) (room : ℕ) where
 
           -- ---- 4, 3
 
-          pub too-large : 32768 < 1 + w + n → writeOutput kind today s room ≡ refusal LargeContainer 0
+          pub too-large : 32768 < 1 + w + n → writeOutput kind today s room ≡ refusal (found LargeContainer 0)
           too-large h = let k : 32768 < length (container kind vs) = rw long h in sized ∙ rw (lt-leb _ _ k)
 
           module _ (h : 1 + w + n ≤ 32768) where
             fits : length (container kind vs) ≤ 32768
             fits = rw long h
 
-            pub small-room : room < 1 + w + n → writeOutput kind today s room ≡ refusal SmallRoom 0
+            pub small-room : room < 1 + w + n → writeOutput kind today s room ≡ refusal (found SmallRoom 0)
             small-room k = let k′ : room < length (container kind vs) = rw long k in sized ∙ rw (le-leb _ _ fits, lt-ltb _ _ k′)
 
             pub written : 1 + w + n ≤ room → writeOutput kind today s room ≡ text (outerTag kind ∷ (lengthBytes n ++ encode (table kind) vs))

@@ -17,5 +17,5 @@ abbrev pub boxed : ℕ → ℕ → List ℕ → List ℕ
 boxed kind n s = outerTag kind ∷ (lengthBytes n ++ encode (table kind) (held (table kind) s))
 
 abbrev pub Planned : ℕ → ℕ → List ℕ → ℕ → Plan → Type 0
-Planned kind today s room (Refuse f p) = writeOutput kind today s room ≡ refusal f p
+Planned kind today s room (Refuse f) = writeOutput kind today s room ≡ refusal f
 Planned kind today s room (Fits n) = (writeOutput kind today s room ≡ text (boxed kind n s)) × (length (boxed kind n s) ≤ room)

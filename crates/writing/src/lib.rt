@@ -17,6 +17,7 @@ use kinds::Row;
 use kinds::Slot;
 use verdicts::Done;
 use verdicts::Fault;
+use verdicts::Finding;
 use verdicts::Outcome;
 use verdicts::Ruling;
 
@@ -40,8 +41,8 @@ enum Body {
 
 // What is to be done with a sheet.
 enum Plan {
-    // It is refused, with the fault and its place.
-    Refuse(Fault, usize),
+    // It is refused.
+    Refuse(Finding),
     // Its container goes into the room: the elements take so many bytes.
     Fits(usize),
 }
@@ -147,7 +148,7 @@ fn judge_rows(kind: u64, today: u64, s: &[u8]) -> Outcome
             }
             Section::Absent(optional) => {
                 if !optional {
-                    return Outcome::Broken(Fault::MissingRow, at);
+                    return Outcome::Broken(verdicts::found(Fault::MissingRow, at));
                 }
                 at += 2;
             }
@@ -155,7 +156,7 @@ fn judge_rows(kind: u64, today: u64, s: &[u8]) -> Outcome
                 let from = at + 2;
                 match judge_value(kind, today, tag, &s[from..to]) {
                     Ruling::Breaks(f) => {
-                        return Outcome::Broken(f, at);
+                        return Outcome::Broken(verdicts::found(f, at));
                     }
                     Ruling::Kept => {
                         at = to;
@@ -234,23 +235,23 @@ fn planned(kind: u64, today: u64, sheet: &[u8], room: usize) -> Plan
     ensures { λ r. ⌜ Planned kind today (now (sheet .entry)) room r ⌝ }
 {
     if !kinds::is_kind(kind) {
-        return Plan::Refuse(Fault::UnknownKind, 0);
+        return Plan::Refuse(verdicts::found(Fault::UnknownKind, 0));
     }
     if !dates::is_date(today) {
-        return Plan::Refuse(Fault::NoDate, 0);
+        return Plan::Refuse(verdicts::found(Fault::NoDate, 0));
     }
     let Body::Takes(n) = body_length(kind, sheet) else {
-        return Plan::Refuse(Fault::TornSheet, 0);
+        return Plan::Refuse(verdicts::found(Fault::TornSheet, 0));
     };
-    if let Outcome::Broken(f, place) = judge_rows(kind, today, sheet) {
-        return Plan::Refuse(f, place);
+    if let Outcome::Broken(f) = judge_rows(kind, today, sheet) {
+        return Plan::Refuse(f);
     }
     let size = 1 + lengths::length_width(n) + n;
     if 32768 < size {
-        return Plan::Refuse(Fault::LargeContainer, 0);
+        return Plan::Refuse(verdicts::found(Fault::LargeContainer, 0));
     }
     if room < size {
-        return Plan::Refuse(Fault::SmallRoom, 0);
+        return Plan::Refuse(verdicts::found(Fault::SmallRoom, 0));
     }
     Plan::Fits(n)
 }
@@ -260,9 +261,9 @@ pub fn write(kind: u64, today: u64, sheet: &[u8], container: &mut [u8]) -> Done
     ensures { λ r. ⌜ Leaves (writeOutput kind today (now (sheet .entry)) (length (now (container .entry)))) (now (container .entry)) (now (container .exit)) r ⌝ }
 {
     match planned(kind, today, sheet, container.len()) {
-        Plan::Refuse(f, place) => {
+        Plan::Refuse(f) => {
             room::clear(container);
-            verdicts::refused(f, place)
+            verdicts::refused(f)
         }
         Plan::Fits(n) => {
             let size = put_container(kind, sheet, n, container);

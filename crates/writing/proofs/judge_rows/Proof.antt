@@ -51,9 +51,10 @@ returns c =
 
 returns-2 : tie.Need-returns-2 Inv-loop μ-loop
 returns-2 c =
-    let l = c .before .before .before .before .before .before in
+    let i = c .before in
+    let l = i .before .before .before .before .before .before in
     let a = l .before .before .args in
-    judged-missing (a .kind) (a .today) (l .loop .row) (a .s .now) (l .loop .at) (absent (c .before)) (not-true _ (c .if1 .taken)) ∙ l .loop .inv .2
+    rw (c .found .ensures) (judged-missing (a .kind) (a .today) (l .loop .row) (a .s .now) (l .loop .at) (absent (i .before)) (not-true _ (i .if1 .taken)) ∙ l .loop .inv .2)
 
 loop-again : tie.Need-loop-again Inv-loop μ-loop
 loop-again c =
@@ -64,11 +65,12 @@ loop-again c =
 
 returns-3 : tie.Need-returns-3 Inv-loop μ-loop
 returns-3 c =
-    let j = c .before .before .before in
+    let g = c .before in
+    let j = g .before .before .before in
     let m = j .before .before in
     let l = m .before .before .before .before .before in
     let a = l .before .before .args in
-    judged-broken (a .kind) (a .today) (l .loop .row) (a .s .now) (l .loop .at) (value m) (sym (c .before .f .given .1) ∙ j .judge-value .ensures) ∙ l .loop .inv .2
+    rw (c .found2 .ensures) (judged-broken (a .kind) (a .today) (l .loop .row) (a .s .now) (l .loop .at) (value m) (sym (g .before .f .given .1) ∙ j .judge-value .ensures) ∙ l .loop .inv .2)
 
 loop-again-2 : tie.Need-loop-again-2 Inv-loop μ-loop
 loop-again-2 c =
@@ -97,6 +99,7 @@ judge-rows-spec =
     (λ c. search needs)
     returns
     (λ c. search needs)
+    (λ c κs. search needs)
     returns-2
     (λ c. omega (arith, absent-in (c .before)))
     (λ c. omega (arith, absent-in (c .before)))
@@ -108,6 +111,7 @@ judge-rows-spec =
     (λ c. omega (arith, value-in c))
     (λ c κs. search needs)
     (λ c. search needs)
+    (λ c κs. search needs)
     returns-3
     (λ c. search needs)
     (λ c. omega (arith, value-in (c .before .before .before .before)))

@@ -37,23 +37,26 @@ fine k = sym (k .enum-told2 .given .1) ∙ k .before .before .judge-rows .ensure
 
 returns : tie.Need-returns
 returns c =
-    let a = c .before .before .before .args in
-    bad-kind (a .kind) (a .today) (a .sheet .now) (a .room) (sym (c .before .is-kind .ensures) ∙ not-true _ (c .if1 .taken))
+    let t = c .before in
+    let a = t .before .before .before .args in
+    rw (c .found .ensures) (bad-kind (a .kind) (a .today) (a .sheet .now) (a .room) (sym (t .before .is-kind .ensures) ∙ not-true _ (t .if1 .taken)))
 
 returns-2 : tie.Need-returns-2
 returns-2 c =
-    let d = c .before in
+    let t = c .before in
+    let d = t .before in
     let e = d .before in
     let a = e .before .before .before .args in
-    bad-date (a .kind) (a .today) (a .sheet .now) (a .room) (a-kind e) (sym (d .is-date .ensures) ∙ not-true _ (c .if2 .taken))
+    rw (c .found2 .ensures) (bad-date (a .kind) (a .today) (a .sheet .now) (a .room) (a-kind e) (sym (d .is-date .ensures) ∙ not-true _ (t .if2 .taken)))
 
 returns-3 : tie.Need-returns-3
 returns-3 c =
-    let b = c .before .before in
+    let t = c .before in
+    let b = t .before .before in
     let f = b .before in
     let e = f .before .before in
     let a = e .before .before .before .args in
-    torn-sheet (a .kind) (a .today) (a .sheet .now) (a .room) (a-kind e) (dated f) (sym (c .enum-told .given .1) ∙ b .body-length .ensures .0)
+    rw (c .found3 .ensures) (torn-sheet (a .kind) (a .today) (a .sheet .now) (a .room) (a-kind e) (dated f) (sym (t .enum-told .given .1) ∙ b .body-length .ensures .0))
 
 returns-4 : tie.Need-returns-4
 returns-4 c =
@@ -66,24 +69,26 @@ returns-4 c =
 
 returns-5 : tie.Need-returns-5
 returns-5 c =
-    let w = c .before in
+    let t = c .before in
+    let w = t .before in
     let i = w .before in
     let k = i .before .before .before in
     let f = k .before .before .before .before in
     let e = f .before .before in
     let a = e .before .before .before .args in
-    too-large (a .kind) (a .today) (a .sheet .now) (a .room) (a-kind e) (dated f) (takes k) (fine i) (w .length-width .ensures .0) (c .if3 .taken)
+    rw (c .found4 .ensures) (too-large (a .kind) (a .today) (a .sheet .now) (a .room) (a-kind e) (dated f) (takes k) (fine i) (w .length-width .ensures .0) (t .if3 .taken))
 
 returns-6 : tie.Need-returns-6
 returns-6 c =
-    let l = c .before in
+    let t = c .before in
+    let l = t .before in
     let w = l .before in
     let i = w .before in
     let k = i .before .before .before in
     let f = k .before .before .before .before in
     let e = f .before .before in
     let a = e .before .before .before .args in
-    small-room (a .kind) (a .today) (a .sheet .now) (a .room) (a-kind e) (dated f) (takes k) (fine i) (w .length-width .ensures .0) (l .if3 .left) (c .if4 .taken)
+    rw (c .found5 .ensures) (small-room (a .kind) (a .today) (a .sheet .now) (a .room) (a-kind e) (dated f) (takes k) (fine i) (w .length-width .ensures .0) (l .if3 .left) (t .if4 .taken))
 
 returns-7 : tie.Need-returns-7
 returns-7 c =
@@ -104,12 +109,15 @@ planned-spec =
     tie.close
     (tie.spec
     (λ c κs. search needs)
+    (λ c κs. search needs)
     returns
+    (λ c κs. search needs)
     (λ c κs. search needs)
     returns-2
     (λ c κs. search needs)
     (λ c. search needs)
     (λ c. search needs)
+    (λ c κs. search needs)
     returns-3
     (λ c κs. search needs)
     (λ c. search needs)
@@ -118,6 +126,8 @@ planned-spec =
     (λ c κs. search needs)
     (λ c. search needs)
     (λ c. omega (arith, few (c .before .before .before .before)))
+    (λ c κs. search needs)
     returns-5
+    (λ c κs. search needs)
     returns-6
     returns-7)
