@@ -7,6 +7,7 @@ use Rattle.dates.specs.Date.{isDate}
 use Rattle.plain.specs.Plain.{isPolicy}
 use Rattle.lengths.specs.Length.{lengthBytes}
 use Rattle.rules.specs.Rules.{application, ruleOf}
+use Rattle.verdicts.specs.Verdicts.{found}
 use Rattle.verdicts.specs.Output.{refusal, text}
 use Rattle.verdicts.specs.declared.Fault.the-variants.{UnknownKind, NoDate, SmallRoom, TornSheet, MissingRow, ElementLength, BadFixed}
 use Rattle.writing.specs.Writing.{writeOutput}
@@ -23,38 +24,38 @@ unfolding writeOutput lengthBytes ruleOf isDate exists daysIn isPolicy
 p13 = refl
 
 -- 3, a room of a byte less
-pub small-room : writeOutput 3 20260301 sheet 19 ≡ refusal SmallRoom 0
+pub small-room : writeOutput 3 20260301 sheet 19 ≡ refusal (found SmallRoom 0)
 unfolding writeOutput lengthBytes ruleOf isDate exists daysIn isPolicy
 small-room = refl
 
 -- 20 with the place of the row's count
-pub p14 : writeOutput 3 20260301 (0x00 ∷ 0x0C ∷ application ++ policy 0x60) 20 ≡ refusal BadFixed 13
+pub p14 : writeOutput 3 20260301 (0x00 ∷ 0x0C ∷ application ++ policy 0x60) 20 ≡ refusal (found BadFixed 13)
 unfolding writeOutput ruleOf isDate exists daysIn isPolicy
 p14 = refl
 
 -- 15 and 16
-pub absent : writeOutput 3 20260301 (0x00 ∷ 0x0C ∷ application ++ (0x00 ∷ 0x00 ∷ [])) 20 ≡ refusal MissingRow 13
+pub absent : writeOutput 3 20260301 (0x00 ∷ 0x0C ∷ application ++ (0x00 ∷ 0x00 ∷ [])) 20 ≡ refusal (found MissingRow 13)
 unfolding writeOutput ruleOf isDate exists daysIn isPolicy
 absent = refl
 
-pub long : writeOutput 3 20260301 (0x00 ∷ 0x0D ∷ application ++ (0x00 ∷ policy 0x40)) 20 ≡ refusal ElementLength 0
+pub long : writeOutput 3 20260301 (0x00 ∷ 0x0D ∷ application ++ (0x00 ∷ policy 0x40)) 20 ≡ refusal (found ElementLength 0)
 unfolding writeOutput ruleOf isDate exists daysIn isPolicy
 long = refl
 
 -- 5 before them: bytes left over, a section cut short
-pub left-over : writeOutput 3 20260301 (0x00 ∷ 0x00 ∷ 0x00 ∷ 0x00 ∷ 0x00 ∷ []) 20 ≡ refusal TornSheet 0
+pub left-over : writeOutput 3 20260301 (0x00 ∷ 0x00 ∷ 0x00 ∷ 0x00 ∷ 0x00 ∷ []) 20 ≡ refusal (found TornSheet 0)
 unfolding writeOutput isDate exists daysIn
 left-over = refl
 
-pub cut-short : writeOutput 3 20260301 (0x00 ∷ 0x00 ∷ 0x00 ∷ 0x02 ∷ []) 20 ≡ refusal TornSheet 0
+pub cut-short : writeOutput 3 20260301 (0x00 ∷ 0x00 ∷ 0x00 ∷ 0x02 ∷ []) 20 ≡ refusal (found TornSheet 0)
 unfolding writeOutput isDate exists daysIn
 cut-short = refl
 
 -- 1, 2
-pub no-kind : writeOutput 8 20260301 sheet 20 ≡ refusal UnknownKind 0
+pub no-kind : writeOutput 8 20260301 sheet 20 ≡ refusal (found UnknownKind 0)
 unfolding writeOutput
 no-kind = refl
 
-pub no-date : writeOutput 3 20260229 sheet 20 ≡ refusal NoDate 0
+pub no-date : writeOutput 3 20260229 sheet 20 ≡ refusal (found NoDate 0)
 unfolding writeOutput isDate exists daysIn
 no-date = refl

@@ -1,7 +1,6 @@
-pub mod Sections
 pub mod Judging
+pub mod Opening
 pub mod Rows
-pub mod Passes
 pub mod Ways
 pub mod Sheets
 pub mod Promise

@@ -17,7 +17,7 @@ use Rattle.dates.proofs.Dates.{date-exact}
 use Rattle.kinds.specs.Tables.{Table, table, permitted, isKind}
 use Rattle.rules.specs.Rules.{ruleOf}
 use Rattle.verdicts.specs.Output.{refusal, text}
-use Rattle.verdicts.specs.declared.Fault.{Fault}
+use Rattle.verdicts.specs.declared.Finding.{Finding}
 use Rattle.verdicts.specs.declared.Ruling.{Ruling}
 use Rattle.verdicts.specs.declared.Ruling.the-variants.{Kept, Breaks}
 use Rattle.verdicts.specs.declared.Outcome.{Outcome}
@@ -34,7 +34,7 @@ use Rattle.writing.proofs.Sheets.{opened-exact, AllBytes, sheet-values,
 
 -- ---- nothing is broken exactly where the values are allowed
 
-no-fine : {f : Fault} {p : ℕ} → Broken f p ≡ Fine → ⊥
+no-fine : {f : Finding} → Broken f ≡ Fine → ⊥
 no-fine e = let z : _≡_ {A = ℕ} 0 1 = cc in omega arith
 
 kept-fine : (x : Ruling) (at : ℕ) (later : Outcome) → keptOr x at later ≡ Fine → (x ≡ Kept) × (later ≡ Fine)
@@ -72,7 +72,7 @@ judged-exact today rows vs at b h = (fine-allowed today rows vs at b h, allowed-
 
 -- ---- a sheet is accepted, and written as c, exactly where it is the sheet of values that c is the container of, and c goes into the room
 
-no-text : {f : Fault} {p : ℕ} {c : List ℕ} → refusal f p ≡ text c → ⊥
+no-text : {f : Finding} {c : List ℕ} → refusal f ≡ text c → ⊥
 no-text e = let z : _≡_ {A = ℕ} 0 1 = cc in omega arith
 
 roomy-is : (t : List ℕ) (room : ℕ) (c : List ℕ) → roomy t room ≡ text c → (t ≡ c) × (length t ≤ room)
@@ -97,7 +97,7 @@ sized-fits t room h k = rw (le-leb _ _ h) (roomy-fits t room k)
 
 judged-is : (o : Outcome) (t : List ℕ) (room : ℕ) (c : List ℕ) → judgedOut o t room ≡ text c → (o ≡ Fine) × (sizedOut t room ≡ text c)
 judged-is Fine t room c e = (refl, e)
-judged-is (Broken f p) t room c e = absurd (no-text e)
+judged-is (Broken f) t room c e = absurd (no-text e)
 
 opened-is : (kind today : ℕ) (o : Option Values) (room : ℕ) (c : List ℕ) → openedOut kind today o room ≡ text c
     → (vs : Values) × (o ≡ some vs) × (judgedOut (judged today (table kind) vs 0) (container kind vs) room ≡ text c)
@@ -166,9 +166,9 @@ written-bytes kind today s room b c e =
 
 -- ---- the round trips
 
-read-is : (p : Parsed) (room : ℕ) (s : List ℕ) → readOf p room ≡ text s → (vs : Values) × (p ≡ values vs) × (sheetOf vs ≡ s)
+read-is : (p : Parsed (List ℕ)) (room : ℕ) (s : List ℕ) → readOf p room ≡ text s → (vs : Values) × (p ≡ values vs) × (sheetOf vs ≡ s)
 read-is (values vs) room s e = (vs, refl, roomy-is (sheetOf vs) room s e .0)
-read-is (fault f p) room s e = absurd (no-text e)
+read-is (fault f) room s e = absurd (no-text e)
 
 -- what is read of a container is the sheet of its values
 pub read-values : (kind today : ℕ) (c : List ℕ) → Bytes c → (room : ℕ) (s : List ℕ) → readOutput kind today c room ≡ text s

@@ -1,176 +1,195 @@
--- What stands where the section of a row is due, taken back to the sheet: what it opens to and holds from there. Assumes nothing.
-use Prim.Native.Nat.{ℕ, _+_, _-_, _*_, _≤_, _<_}
+-- The rows of a table from a number on, and the values that lie for them: what is left to judge and to write. Assumes nothing.
+use Prim.Native.Nat.{ℕ, zero, suc, _+_, _-_, _≤_, _<_}
 use mathlib.Core.Path.{_≡_, refl, sym, ap, _∙_}
 use mathlib.Core.Logic.{inl, inr}
-use mathlib.Core.Bool.{Bool}
+use mathlib.Core.Bool.{Bool, true, false, cond, true≢false}
 use mathlib.Core.Option.{none, some}
-use mathlib.Core.List.{List, [], _∷_}
+use mathlib.Core.List.{List, [], _∷_, _++_, append-assoc}
+use native.Mathlib.Nat.{zero-add}
+use native.Mathlib.Numerals.{add-one}
 use native.Mathlib.Omega.{arith}
-use lib.Dec.{ltb, eqb}
-use lib.ListN.{length, take, drop, length-drop}
-use lib.Seq.{drop-drop, length-take-le}
-use borrow.Author.Tests.{ltb-false, eqb-false}
+use lib.Dec.{eqb}
+use lib.Seq.{drop-nil, drop-drop}
+use lib.ListN.{length, getD, drop, length-append, drop-of-length-le}
+use borrow.Author.Tests.{eqb-false, ne-eqb, eq-eqb}
+use Rattle.laws.specs.Layout.{part}
 use Rattle.laws.proofs.Cases.{which}
-use Rattle.kinds.specs.Tables.{Entry, Table, table, first, rowAt}
-use Rattle.kinds.specs.declared.Slot.the-variants.{End}
-use Rattle.writing.specs.Writing.{ahead, opened}
-use Rattle.writing.specs.Sections.{here, sectionAt, held}
-use Rattle.writing.specs.declared.Section.the-variants.{Torn, Absent, Value}
-use Rattle.container.proofs.Walk.{dropped}
+use Rattle.kinds.specs.Tables.{Entry, Table, table, permitted, find, first, rowOf, rowAt}
+use Rattle.kinds.specs.declared.Slot.the-variants.{Holds, End}
+use Rattle.kinds.proofs.Every.{few-rows}
+use Rattle.lengths.specs.Length.{lengthBytes}
+use Rattle.rules.specs.Rules.{ruleOf}
+use Rattle.verdicts.specs.Verdicts.{found}
+use Rattle.verdicts.specs.declared.Fault.{Fault}
+use Rattle.verdicts.specs.declared.Fault.the-variants.{MissingRow, ElementLength}
+use Rattle.verdicts.specs.declared.Ruling.{Ruling}
+use Rattle.verdicts.specs.declared.Ruling.the-variants.{Kept, Breaks}
+use Rattle.container.specs.Container.{Values, tagBytes, has, encode}
+use Rattle.container.specs.Map.{rowValue, shown}
+use Rattle.container.proofs.Rows.{Distinct}
+use Rattle.container.proofs.Tags.{distinct, tags, Plain, Tags, short, double}
+use Rattle.writing.specs.Writing.{keptOr, judged}
+use Rattle.writing.specs.Passes.{judgedBy, bodyOf, elementBytes}
+use Rattle.writing.specs.declared.Body.{Body}
+use Rattle.writing.specs.declared.Body.the-variants.{Bad, Takes}
 
--- ---- a section, by rows and bytes
+-- ---- the row with a number, and the rows after it
 
-not-absent : {o : Bool} → Torn ≡ Absent o → ⊥
-not-absent e = let z : _≡_ {A = ℕ} 0 1 = cc in omega arith
+pub record Next (kind i tag : ℕ) (optional : Bool) : Type 0 where
+  pub row : Entry
+  pub split : drop i (table kind) ≡ row ∷ drop (i + 1) (table kind)
+  pub tag-is : row .tag ≡ tag
+  pub optional-is : row .optional ≡ optional
 
-not-value : {t to : ℕ} → Torn ≡ Value t to → ⊥
-not-value e = let z : _≡_ {A = ℕ} 0 1 = cc in omega arith
-
-neither : {o : Bool} {t to : ℕ} → Absent o ≡ Value t to → ⊥
-neither e = let z : _≡_ {A = ℕ} 0 1 = cc in omega arith
-
-module _ (at : ℕ) where
-  torn-here : (rows : Table) (s : List ℕ) → 0 < length s → Torn ≡ here (first rows) at s → (opened rows s ≡ none) × (held rows s ≡ [])
-  torn-here [] [] h e = absurd (omega arith)
-  torn-here [] (b ∷ s) h e = (refl, refl)
-  torn-here (r ∷ rs) [] h e = absurd (omega arith)
-  torn-here (r ∷ rs) (a ∷ []) h e = (refl, refl)
-  torn-here (r ∷ rs) (a ∷ b ∷ s) h e =
-      elim (which (eqb (a * 256 + b) 0)) [
-        | inl q ↦ absurd (not-absent (rw q at e))
-        | inr q ↦
-            elim (which (ltb (length s) (a * 256 + b - 1))) [
-              | inl l ↦ rw (q, l) (refl, refl)
-              | inr l ↦ absurd (not-value (rw (q, l) at e))
-            ]
-      ]
-
-  record Skip (rows : Table) (s : List ℕ) (optional : Bool) : Type 0 where
-    row : Entry
-    later : Table
-    split : rows ≡ row ∷ later
-    is : row .optional ≡ optional
-    opens : opened rows s ≡ ahead none (opened later (drop 2 s))
-    holds : held rows s ≡ none ∷ held later (drop 2 s)
-
-  absent-here : (rows : Table) (s : List ℕ) {o : Bool} → Absent o ≡ here (first rows) at s → Skip rows s o
-  absent-here [] s e = absurd (not-absent (sym e))
-  absent-here (r ∷ rs) [] e = absurd (not-absent (sym e))
-  absent-here (r ∷ rs) (a ∷ []) e = absurd (not-absent (sym e))
-  absent-here (r ∷ rs) (a ∷ b ∷ s) {o} e =
-      elim (which (eqb (a * 256 + b) 0)) [
-        | inl q ↦
-            let f : Absent o ≡ Absent (r .optional) = rw q at e in
-            let i : r .optional ≡ o = cc in
-            record { row = r; later = rs; split = refl; is = i; opens = rw q; holds = rw q }
-        | inr q ↦
-            elim (which (ltb (length s) (a * 256 + b - 1))) [
-              | inl l ↦ absurd (not-absent (sym (rw (q, l) at e)))
-              | inr l ↦ absurd (neither (rw (q, l) at e))
-            ]
-      ]
-
-  record Meet (rows : Table) (s : List ℕ) (tag to : ℕ) : Type 0 where
-    row : Entry
-    later : Table
-    split : rows ≡ row ∷ later
-    is : row .tag ≡ tag
-    size : ℕ
-    ends : to ≡ at + 2 + size
-    inside : size ≤ length (drop 2 s)
-    opens : opened rows s ≡ ahead (some (take size (drop 2 s))) (opened later (drop size (drop 2 s)))
-    holds : held rows s ≡ some (take size (drop 2 s)) ∷ held later (drop size (drop 2 s))
-
-  value-here : (rows : Table) (s : List ℕ) {tag to : ℕ} → Value tag to ≡ here (first rows) at s → Meet rows s tag to
-  value-here [] s e = absurd (not-value (sym e))
-  value-here (r ∷ rs) [] e = absurd (not-value (sym e))
-  value-here (r ∷ rs) (a ∷ []) e = absurd (not-value (sym e))
-  value-here (r ∷ rs) (a ∷ b ∷ s) {tag} {to} e =
-      elim (which (eqb (a * 256 + b) 0)) [
-        | inl q ↦ absurd (neither (sym (rw q at e)))
-        | inr q ↦
-            elim (which (ltb (length s) (a * 256 + b - 1))) [
-              | inl l ↦ absurd (not-value (sym (rw (q, l) at e)))
-              | inr l ↦
-                  let f : Value tag to ≡ Value (r .tag) (at + 1 + (a * 256 + b)) = rw (q, l) at e in
-                  let i : r .tag ≡ tag = cc in
-                  let j : to ≡ at + 1 + (a * 256 + b) = cc in
-                  let z = eqb-false (a * 256 + b) 0 q in
-                  record {
-                    row = r;
-                    later = rs;
-                    split = refl;
-                    is = i;
-                    size = a * 256 + b - 1;
-                    ends = omega (arith, j, z);
-                    inside = ltb-false _ _ l;
-                    opens = rw (q, l);
-                    holds = rw (q, l);
-                  }
-            ]
-      ]
-
--- ---- by the row's number
+pub next : (kind i : ℕ) {tag : ℕ} {optional : Bool} → Holds tag optional ≡ rowAt kind i → Next kind i tag optional
+next kind i {tag} {optional} e = go (drop i (table kind)) refl e
+  where
+    go : (rows : Table) → drop i (table kind) ≡ rows → Holds tag optional ≡ first rows → Next kind i tag optional
+    go [] q f = let z : _≡_ {A = ℕ} 0 1 = cc in absurd (omega arith)
+    go (r ∷ rs) q f =
+        let l : drop (i + 1) (table kind) ≡ rs = sym (drop-drop 1 i (table kind)) ∙ ap (drop 1) q in
+        record { row = r; split = rw l q; tag-is = cc; optional-is = cc }
 
 -- no row is left
-pub no-rows : (rows : Table) → End ≡ first rows → rows ≡ []
-no-rows [] e = refl
-no-rows (r ∷ rs) e = let z : _≡_ {A = ℕ} 0 1 = cc in absurd (omega arith)
+pub no-row : (kind i : ℕ) → End ≡ rowAt kind i → drop i (table kind) ≡ []
+no-row kind i e = go (drop i (table kind)) e
+  where
+    go : (rows : Table) → End ≡ first rows → rows ≡ []
+    go [] f = refl
+    go (r ∷ rs) f = let z : _≡_ {A = ℕ} 0 1 = cc in absurd (omega arith)
 
--- what the n-th row has at `at`: a section without a value
-pub record Skipped (kind n : ℕ) (s : List ℕ) (at : ℕ) (optional : Bool) : Type 0 where
-  pub row : Entry
-  pub split : drop n (table kind) ≡ row ∷ drop (n + 1) (table kind)
-  pub is : row .optional ≡ optional
-  pub opens : opened (drop n (table kind)) (drop at s) ≡ ahead none (opened (drop (n + 1) (table kind)) (drop (at + 2) s))
-  pub holds : held (drop n (table kind)) (drop at s) ≡ none ∷ held (drop (n + 1) (table kind)) (drop (at + 2) s)
+pub past-rows : (kind i : ℕ) → 16 ≤ i → drop i (table kind) ≡ []
+past-rows kind i h = let l : length (table kind) ≤ i = omega (arith, few-rows kind) in drop-of-length-le (table kind) l
 
--- or one with a value
-abbrev pub valueIn : List ℕ → ℕ → ℕ → List ℕ
-valueIn s at to = take (to - (at + 2)) (drop (at + 2) s)
+-- a tag has two bytes at most
+tag-in : (all : Table) (n : ℕ) (rows : Table) {r : Entry} {rs : Table} → Tags all rows → drop n rows ≡ r ∷ rs → Plain all (r .tag)
+tag-in all zero [] p e = let z : _≡_ {A = ℕ} 0 1 = cc in absurd (omega arith)
+tag-in all zero (x ∷ rows) {r} p e = let q : r ≡ x = cc in rw q (p .0)
+tag-in all (suc n) [] p e = let z : _≡_ {A = ℕ} 0 1 = cc in absurd (omega arith)
+tag-in all (suc n) (x ∷ rows) p e = tag-in all n rows (p .1) e
 
-pub record Met (kind n : ℕ) (s : List ℕ) (at tag to : ℕ) : Type 0 where
-  pub row : Entry
-  pub split : drop n (table kind) ≡ row ∷ drop (n + 1) (table kind)
-  pub is : row .tag ≡ tag
-  pub behind : at + 2 ≤ to
-  pub long : length (valueIn s at to) ≡ to - (at + 2)
-  pub opens : opened (drop n (table kind)) (drop at s) ≡ ahead (some (valueIn s at to)) (opened (drop (n + 1) (table kind)) (drop to s))
-  pub holds : held (drop n (table kind)) (drop at s) ≡ some (valueIn s at to) ∷ held (drop (n + 1) (table kind)) (drop to s)
+pub small-tag : {kind i tag : ℕ} {optional : Bool} → Next kind i tag optional → tag < 65536
+small-tag {kind} {i} {tag} k = rw (← k .tag-is) (go (tag-in (table kind) i (table kind) (tags kind) (k .split)))
+  where
+    go : {u : ℕ} → Plain (table kind) u → u < 65536
+    go (short h j) = omega arith
+    go (double h j) = omega arith
 
-module _ (kind n : ℕ) (s : List ℕ) (at : ℕ) where
-  pub torn : at < length s → Torn ≡ sectionAt (rowAt kind n) at (drop at s) → (opened (drop n (table kind)) (drop at s) ≡ none) × (held (drop n (table kind)) (drop at s) ≡ [])
-  unfolding sectionAt
-  torn h e = torn-here at (drop n (table kind)) (drop at s) (rw length-drop (omega arith)) e
+-- ---- a value is judged by its row, which its tag finds, since no tag stands twice
 
-  pub skipped : {o : Bool} → Absent o ≡ sectionAt (rowAt kind n) at (drop at s) → Skipped kind n s at o
-  unfolding sectionAt
-  skipped e =
-      let k = absent-here at (drop n (table kind)) (drop at s) e in
-      let l : drop (n + 1) (table kind) ≡ k .later = dropped n (table kind) (k .split) in
-      record {
-        row = k .row;
-        split = rw l (k .split);
-        is = k .is;
-        opens = rw (l, ← drop-drop 2 at s) (k .opens);
-        holds = rw (l, ← drop-drop 2 at s) (k .holds);
-      }
+other-tag : (u n : ℕ) (rows : Table) {r : Entry} {rs : Table} → has u rows ≡ false → drop n rows ≡ r ∷ rs → eqb (r .tag) u ≡ false
+other-tag u n [] {r} h e = let z : _≡_ {A = ℕ} 0 1 = cc (drop-nil {A = Entry} n) in absurd (omega arith)
+other-tag u zero (x ∷ rows) {r} h e =
+    let q : r ≡ x = cc in
+    elim (which (eqb u (x .tag))) [
+      | inl p ↦ absurd (true≢false (rw p at h))
+      | inr p ↦ rw q (ne-eqb (x .tag) u (λ z. eqb-false u (x .tag) p (sym z)))
+    ]
+other-tag u (suc n) (x ∷ rows) h e =
+    elim (which (eqb u (x .tag))) [
+      | inl p ↦ absurd (true≢false (rw p at h))
+      | inr p ↦ other-tag u n rows (rw p at h) e
+    ]
 
-  pub met : {tag to : ℕ} → Value tag to ≡ sectionAt (rowAt kind n) at (drop at s) → Met kind n s at tag to
-  unfolding sectionAt
-  met {tag} {to} e =
-      let k = value-here at (drop n (table kind)) (drop at s) e in
-      let l : drop (n + 1) (table kind) ≡ k .later = dropped n (table kind) (k .split) in
-      let z : to - (at + 2) ≡ k .size = omega (arith, k .ends) in
-      let v : drop 2 (drop at s) ≡ drop (at + 2) s = drop-drop 2 at s in
-      let d : drop (k .size) (drop 2 (drop at s)) ≡ drop to s = ap (drop (k .size)) v ∙ drop-drop (k .size) (at + 2) s ∙ ap (λ (i : ℕ). drop i s) (sym (k .ends)) in
-      let w : valueIn s at to ≡ take (k .size) (drop 2 (drop at s)) = rw (z, v) in
-      record {
-        row = k .row;
-        split = rw l (k .split);
-        is = k .is;
-        behind = omega (arith, k .ends);
-        long = ap length w ∙ length-take-le (k .size) (drop 2 (drop at s)) (k .inside) ∙ sym z;
-        opens = rw (l, w, ← d) (k .opens);
-        holds = rw (l, w, ← d) (k .holds);
-      }
+abbrev judgedAs : Entry → ℕ → List ℕ → Ruling
+judgedAs r today v = cond (permitted (r .lengths) (length v)) (ruleOf (r .rule) today v) (Breaks ElementLength)
+
+by-row : (today : ℕ) (v : List ℕ) (n : ℕ) (rows : Table) (i from : ℕ) {r : Entry} {rs : Table} → Distinct rows → drop n rows ≡ r ∷ rs → judgedBy (find i from rows (r .tag)) today v ≡ judgedAs r today v
+by-row today v zero [] i from d e = let z : _≡_ {A = ℕ} 0 1 = cc in absurd (omega arith)
+by-row today v zero (x ∷ rows) i from {r} d e = let q : r ≡ x = cc in rw (q, eq-eqb (x .tag) (x .tag) refl)
+by-row today v (suc n) [] i from d e = let z : _≡_ {A = ℕ} 0 1 = cc in absurd (omega arith)
+by-row today v (suc n) (x ∷ rows) i from {r} d e =
+    rw (other-tag (x .tag) n rows (d .0) e)
+    (by-row today v n rows (i + 1) (cond (x .optional) from (i + 1)) (d .1) e)
+
+judged-some : (today : ℕ) (r : Entry) (rs : Table) (v : List ℕ) (vs : Values) (at : ℕ) → judged today (r ∷ rs) (some v ∷ vs) at ≡ keptOr (judgedAs r today v) at (judged today rs vs (at + 2 + length v))
+judged-some today r rs v vs at =
+    elim (which (permitted (r .lengths) (length v))) [
+      | inl p ↦ rw p
+      | inr p ↦ rw p
+    ]
+
+-- ---- what is left, from the row i on
+
+module _ (kind : ℕ) (s from to : List ℕ) where
+  abbrev vals : ℕ → Values
+  vals i = shown from to s (length (drop i (table kind))) i
+
+  -- to write
+  unfoldable pub textFrom : ℕ → List ℕ
+  textFrom i = encode (drop i (table kind)) (vals i)
+
+  pub text-all : textFrom 0 ≡ encode (table kind) (shown from to s (length (table kind)) 0)
+  unfolding textFrom
+  text-all = refl
+
+  pub text-end : (i : ℕ) → drop i (table kind) ≡ [] → textFrom i ≡ []
+  unfolding textFrom
+  text-end i e = rw e
+
+  module _ (today : ℕ) where
+    -- to judge, where the counts so far end at `at` and the elements so far take `size` bytes
+    unfoldable pub bodyFrom : ℕ → ℕ → ℕ → Body
+    bodyFrom i at size = bodyOf (judged today (drop i (table kind)) (vals i) at) (size + length (encode (drop i (table kind)) (vals i)))
+
+    pub body-all : bodyFrom 0 0 0 ≡ bodyOf (judged today (table kind) (shown from to s (length (table kind)) 0) 0) (length (encode (table kind) (shown from to s (length (table kind)) 0)))
+    unfolding bodyFrom
+    body-all = rw zero-add
+
+    pub body-end : (i at size : ℕ) → drop i (table kind) ≡ [] → Takes size ≡ bodyFrom i at size
+    unfolding bodyFrom
+    body-end i at size e = rw e (ap Takes (omega arith))
+
+  module _ (i : ℕ) {tag : ℕ} {optional : Bool} (k : Next kind i tag optional) where
+    vals-next : vals i ≡ rowValue from to s i ∷ vals (i + 1)
+    unfolding shown
+    vals-next = rw (k .split, ← add-one i)
+
+    -- a row that is absent
+    module _ (e : getD to i 0 ≡ 0) where
+      vals-absent : vals i ≡ none ∷ vals (i + 1)
+      vals-absent = vals-next ∙ rw e
+
+      pub text-absent : textFrom i ≡ textFrom (i + 1)
+      unfolding textFrom
+      text-absent = rw (vals-absent, k .split)
+
+      module _ (today at size : ℕ) where
+        pub body-missing : optional ≡ false → Bad (found MissingRow at) ≡ bodyFrom today i at size
+        unfolding bodyFrom
+        body-missing o = rw (vals-absent, k .split, k .optional-is, o)
+
+        pub body-absent : optional ≡ true → bodyFrom today (i + 1) (at + 2) size ≡ bodyFrom today i at size
+        unfolding bodyFrom
+        body-absent o = rw (vals-absent, k .split, k .optional-is, o)
+
+    -- one that is there
+    module _ (e : getD to i 0 ≡ 0 → ⊥) where
+      abbrev v : List ℕ
+      v = part s (getD from i 0) (getD to i 0 - getD from i 0)
+
+      vals-value : vals i ≡ some v ∷ vals (i + 1)
+      vals-value = vals-next ∙ rw (ne-eqb _ _ e)
+
+      pub text-value : textFrom i ≡ elementBytes tag v ++ textFrom (i + 1)
+      unfolding textFrom
+      text-value = rw (vals-value, k .split, k .tag-is) (simp append-assoc)
+
+      module _ (today at size : ℕ) where
+        judged-value : judged today (drop i (table kind)) (vals i) at ≡ keptOr (judgedBy (rowOf kind tag) today v) at (judged today (drop (i + 1) (table kind)) (vals (i + 1)) (at + 2 + length v))
+        judged-value =
+            let q : judgedBy (rowOf kind tag) today v ≡ judgedAs (k .row) today v = rw (← k .tag-is) (by-row today v i (table kind) 0 0 (distinct kind) (k .split)) in
+            rw (vals-value, k .split, q) (judged-some today (k .row) (drop (i + 1) (table kind)) v (vals (i + 1)) at)
+
+        pub body-broken : {f : Fault} → Breaks f ≡ judgedBy (rowOf kind tag) today v → Bad (found f at) ≡ bodyFrom today i at size
+        unfolding bodyFrom
+        body-broken b = rw (judged-value, ← b)
+
+        pub body-kept : {m n : ℕ} → Kept ≡ judgedBy (rowOf kind tag) today v → n ≡ length v → m ≡ length (tagBytes tag) + length (lengthBytes n) + n
+            → bodyFrom today (i + 1) (at + (2 + n)) (size + m) ≡ bodyFrom today i at size
+        unfolding bodyFrom textFrom
+        body-kept {m} {n} b l g =
+            let p : at + (2 + n) ≡ at + 2 + length v = omega arith in
+            let g′ : m ≡ length (tagBytes tag) + length (lengthBytes (length v)) + length v = rw l at g in
+            let t : length (textFrom i) ≡ length (tagBytes tag) + length (lengthBytes (length v)) + length v + length (textFrom (i + 1)) = rw text-value (simp length-append (omega arith)) in
+            rw (judged-value, ← b, p) (ap (bodyOf (judged today (drop (i + 1) (table kind)) (vals (i + 1)) (at + 2 + length v))) (omega (arith, t)))

@@ -2,7 +2,7 @@
 use Prim.Native.Nat.{ℕ, _+_, _-_, _*_, _/_, _%_, _≤_, _<_}
 use mathlib.Core.Path.{_≡_, refl, sym, ap, _∙_}
 use mathlib.Core.Logic.{inl, inr, _↔_}
-use mathlib.Core.Option.{none, some}
+use mathlib.Core.Option.{Option, none, some}
 use mathlib.Core.List.{List, [], _∷_, _++_}
 use native.Mathlib.Omega.{arith}
 use lib.Dec.{ltb, eqb}
@@ -19,10 +19,13 @@ use Rattle.container.specs.Container.{Values, tagBytes, encode, outerTag, conta
 use Rattle.container.proofs.Tags.{Plain, Tags, short, double, tags}
 use Rattle.container.proofs.Exact.{bytes-front, bytes-back}
 use Rattle.sheet.specs.Sheet.{sheetOf, Sheeted, IsSheet}
-use Rattle.writing.specs.Writing.{opened}
-use Rattle.writing.proofs.Ways.{ahead-some}
+use Rattle.writing.specs.Writing.{ahead, opened}
 
 -- ---- what is taken apart was a sheet
+
+ahead-some : (o : Option (List ℕ)) (x : Option Values) (vs : Values) → ahead o x ≡ some vs → (ws : Values) × (x ≡ some ws) × (vs ≡ o ∷ ws)
+ahead-some o none vs e = absurd (no-some e)
+ahead-some o (some ws) vs e = (ws, refl, cc)
 
 module _ (r : Entry) (rs : Table) (x y : ℕ) (ws : Values) (h : Sheeted rs ws) where
   none-first : (s : List ℕ) → x * 256 + y ≡ 0 → s ≡ sheetOf ws → Sheeted (r ∷ rs) (none ∷ ws) × (x ∷ y ∷ s ≡ sheetOf (none ∷ ws))

@@ -1,3 +1,2 @@
 pub mod Writing
-pub mod Sections
-pub mod Plans
+pub mod Passes

@@ -8,6 +8,7 @@ use lib.ListN.{length, take, drop}
 use Rattle.kinds.specs.Tables.{Table, table, permitted, isKind}
 use Rattle.dates.specs.Date.{isDate}
 use Rattle.rules.specs.Rules.{ruleOf}
+use Rattle.verdicts.specs.Verdicts.{found}
 use Rattle.verdicts.specs.Output.{Output, refusal}
 use Rattle.verdicts.specs.declared.Fault.the-variants.{UnknownKind, NoDate, LargeContainer, TornSheet, MissingRow, ElementLength}
 use Rattle.verdicts.specs.declared.Ruling.{Ruling}
@@ -37,30 +38,30 @@ opened (r ∷ rs) (a ∷ b ∷ s) =
 
 abbrev pub keptOr : Ruling → ℕ → Outcome → Outcome
 keptOr Kept at later = later
-keptOr (Breaks f) at later = Broken f at
+keptOr (Breaks f) at later = Broken (found f at)
 
 abbrev pub judged : ℕ → Table → Values → ℕ → Outcome
 judged today [] vs at = Fine
 judged today (r ∷ rs) [] at = Fine
-judged today (r ∷ rs) (none ∷ vs) at = cond (r .optional) (judged today rs vs (at + 2)) (Broken MissingRow at)
+judged today (r ∷ rs) (none ∷ vs) at = cond (r .optional) (judged today rs vs (at + 2)) (Broken (found MissingRow at))
 judged today (r ∷ rs) (some v ∷ vs) at =
-    cond (permitted (r .lengths) (length v)) (keptOr (ruleOf (r .rule) today v) at (judged today rs vs (at + 2 + length v))) (Broken ElementLength at)
+    cond (permitted (r .lengths) (length v)) (keptOr (ruleOf (r .rule) today v) at (judged today rs vs (at + 2 + length v))) (Broken (found ElementLength at))
 
 -- ---- the whole
 
 abbrev pub sizedOut : List ℕ → ℕ → Output
-sizedOut c room = cond (leb (length c) largest) (roomy c room) (refusal LargeContainer 0)
+sizedOut c room = cond (leb (length c) largest) (roomy c room) (refusal (found LargeContainer 0))
 
 abbrev pub judgedOut : Outcome → List ℕ → ℕ → Output
 judgedOut Fine c room = sizedOut c room
-judgedOut (Broken f p) c room = refusal f p
+judgedOut (Broken f) c room = refusal f
 
 abbrev pub openedOut : ℕ → ℕ → Option Values → ℕ → Output
-openedOut kind today none room = refusal TornSheet 0
+openedOut kind today none room = refusal (found TornSheet 0)
 openedOut kind today (some vs) room = judgedOut (judged today (table kind) vs 0) (container kind vs) room
 
 unfoldable pub writeOutput : ℕ → ℕ → List ℕ → ℕ → Output
 writeOutput kind today sheet room =
     cond (isKind kind)
-    (cond (isDate today) (openedOut kind today (opened (table kind) sheet) room) (refusal NoDate 0))
-    (refusal UnknownKind 0)
+    (cond (isDate today) (openedOut kind today (opened (table kind) sheet) room) (refusal (found NoDate 0)))
+    (refusal (found UnknownKind 0))

@@ -2,46 +2,43 @@
 ghost use mathlib.Core.Path.{_≡_};
 ghost use mathlib.Core.List.{_∷_, _++_};
 ghost use Prim.Native.Nat.{_<_, _≤_, _+_};
-ghost use lib.ListN.{length, drop};
+ghost use lib.ListN.{length};
 ghost use Rattle.laws.specs.Room.{Put};
-ghost use Rattle.kinds.specs.Tables.{table, rowAt, rowOf, permits};
+ghost use Rattle.kinds.specs.Tables.{table, rowOf, permits};
 ghost use Rattle.lengths.specs.Length.{lengthBytes};
 ghost use Rattle.verdicts.specs.Output.{Leaves};
-ghost use Rattle.container.specs.Container.{tagBytes, encode, outerTag};
-ghost use Rattle.writing.specs.Writing.{opened, judged, writeOutput};
-ghost use Rattle.writing.specs.Plans.{Planned};
-ghost use Rattle.writing.specs.Sections.{sectionAt, Inside, held, bodyOf, Small, elementBytes, judgedBy};
+ghost use Rattle.container.specs.Container.{tagBytes, encode};
+ghost use Rattle.container.specs.Map.{Inside};
+ghost use Rattle.writing.specs.Writing.{judged, writeOutput};
+ghost use Rattle.writing.specs.Passes.{furthest, lying, Apart, judgedBy, bodyOf, Small, elementBytes, boxed, Planned};
 use container::outer_tag;
 use container::permitted;
 use kinds::Row;
 use kinds::Slot;
 use verdicts::Done;
 use verdicts::Fault;
-use verdicts::Outcome;
+use verdicts::Finding;
 use verdicts::Ruling;
 
-// What stands where the section of a row is due.
-enum Section {
-    // Nothing whole: it is cut short, or no row is left.
-    Torn,
-    // No value; and whether the row is optional.
-    Absent(bool),
-    // A value: the row's tag, and the offset after the value, which starts behind the count.
-    Value(u64, usize),
+// Whether a sheet is whole, and from where to where the value of each row lies: 0 and 0 for a row that is absent.
+struct Places {
+    whole: bool,
+    from: [u32; 16],
+    to: [u32; 16],
 }
 
-// What a sheet comes to.
+// What the values come to.
 enum Body {
-    // It is cut short, or has bytes left over.
-    Cut,
-    // It is whole: its elements take so many bytes.
+    // The first finding.
+    Bad(Finding),
+    // Each keeps its rules: the elements take so many bytes.
     Takes(usize),
 }
 
 // What is to be done with a sheet.
 enum Plan {
-    // It is refused, with the fault and its place.
-    Refuse(Fault, usize),
+    // It is refused.
+    Refuse(Finding),
     // Its container goes into the room: the elements take so many bytes.
     Fits(usize),
 }
@@ -53,67 +50,58 @@ fn wide(x: u8) -> usize
     x as usize
 }
 
-// The section of a row at `at`: "a two-byte big-endian count, 0 for absent, else n + 1, then n bytes".
-fn section_at(kind: u64, row: u64, s: &[u8], at: usize) -> Section
-    requires { ⌜ at ≤ length (now s) ⌝ }
-    ensures { λ r. ⌜ r ≡ sectionAt (rowAt kind row) at (drop at (now (s .entry))) ⌝ }
-    ensures { λ r. ⌜ Inside r at (length (now (s .entry))) ⌝ }
+// A first pass, from count to count: "a two-byte big-endian count, 0 for absent, else n + 1, then n bytes". The sheet is torn
+// where it is cut short or has bytes left over.
+fn sections(kind: u64, s: &[u8]) -> Places
+    ensures { λ r. ⌜ Apart kind (now (s .entry)) r ⌝ }
 {
-    match kinds::row_at(kind, row) {
-        Slot::End => Section::Torn,
-        Slot::Holds(tag, optional) => {
-            let left = s.len() - at;
-            if left < 2 {
-                return Section::Torn;
-            }
-            let count = wide(s[at]) * 256 + wide(s[at + 1]);
-            if count == 0 {
-                return Section::Absent(optional);
-            }
-            if left <= count {
-                return Section::Torn;
-            }
-            Section::Value(tag, at + 1 + count)
+    let rows = kinds::last_row(kind);
+    let mut from = [0u32; 16];
+    let mut to = [0u32; 16];
+    let mut at = 0;
+    let mut row: u64 = 0;
+    while row < rows {
+        let i = row as usize;
+        row += 1;
+        let left = s.len() - at;
+        if left < 2 {
+            return Places {
+                whole: false,
+                from: from,
+                to: to,
+            };
         }
+        let count = wide(s[at]) * 256 + wide(s[at + 1]);
+        if count == 0 {
+            at += 2;
+        } else {
+            if left <= count {
+                return Places {
+                    whole: false,
+                    from: from,
+                    to: to,
+                };
+            }
+            let start = at + 2;
+            let end = at + 1 + count;
+            from[i] = start as u32;
+            to[i] = end as u32;
+            at = end;
+        }
+    }
+    Places {
+        whole: at == s.len(),
+        from: from,
+        to: to,
     }
 }
 
 // How many bytes an element takes.
 fn element_length(tag: u64, n: usize) -> usize
-    requires { ⌜ n < 65536 ⌝ }
+    requires { ⌜ n ≤ furthest ⌝ }
     ensures { λ r. ⌜ (r ≡ length (tagBytes tag) + length (lengthBytes n) + n) × (r ≤ n + 5) ⌝ }
 {
     container::tag_len(tag) + lengths::length_width(n) + n
-}
-
-// A first pass, from count to count: whether the sheet is whole, and how many bytes its elements take.
-fn body_length(kind: u64, s: &[u8]) -> Body
-    ensures { λ r. ⌜ r ≡ bodyOf (table kind) (opened (table kind) (now (s .entry))) ⌝ }
-    ensures { λ r. ⌜ Small r ⌝ }
-{
-    let mut at = 0;
-    let mut row: u64 = 0;
-    let mut size: usize = 0;
-    while at < s.len() {
-        let section = section_at(kind, row, s, at);
-        row += 1;
-        match section {
-            Section::Torn => {
-                return Body::Cut;
-            }
-            Section::Absent(_) => {
-                at += 2;
-            }
-            Section::Value(tag, to) => {
-                size += element_length(tag, to - at - 2);
-                at = to;
-            }
-        }
-    }
-    match kinds::row_at(kind, row) {
-        Slot::End => Body::Takes(size),
-        Slot::Holds(_, _) => Body::Cut,
-    }
 }
 
 // A value, by its tag's row: 16, then its rules. A tag that the table gave is in it.
@@ -131,40 +119,39 @@ fn judge_value(kind: u64, today: u64, tag: u64, v: &[u8]) -> Ruling
     }
 }
 
-// A second pass: "row by row 15, 16 and the value's rules, with the place of the row's count". The sheet is whole, or else it
-// was refused; a torn one is judged as far as it goes.
-fn judge_rows(kind: u64, today: u64, s: &[u8]) -> Outcome
-    ensures { λ r. ⌜ r ≡ judged today (table kind) (held (table kind) (now (s .entry))) 0 ⌝ }
+// A second pass: "row by row 15, 16 and the value's rules, with the place of the row's count".
+fn judge_rows(kind: u64, today: u64, s: &[u8], x: Places) -> Body
+    requires { ⌜ Inside (x .from) (x .to) (length (now s)) × Inside (x .from) (x .to) furthest ⌝ }
+    ensures { λ r. ⌜ r ≡ bodyOf (judged today (table kind) (lying kind x (now (s .entry))) 0) (length (encode (table kind) (lying kind x (now (s .entry))))) ⌝ }
+    ensures { λ r. ⌜ Small r ⌝ }
 {
-    let mut at = 0;
+    let froms = x.from;
+    let tos = x.to;
+    let mut at: usize = 0;
+    let mut size: usize = 0;
     let mut row: u64 = 0;
-    while at < s.len() {
-        let section = section_at(kind, row, s, at);
+    while row < 16 {
+        let Slot::Holds(tag, optional) = kinds::row_at(kind, row) else {
+            return Body::Takes(size);
+        };
+        let from = froms[row as usize] as usize;
+        let to = tos[row as usize] as usize;
         row += 1;
-        match section {
-            Section::Torn => {
-                return Outcome::Fine;
+        if to == 0 {
+            if !optional {
+                return Body::Bad(verdicts::found(Fault::MissingRow, at));
             }
-            Section::Absent(optional) => {
-                if !optional {
-                    return Outcome::Broken(Fault::MissingRow, at);
-                }
-                at += 2;
+            at += 2;
+        } else {
+            if let Ruling::Breaks(f) = judge_value(kind, today, tag, &s[from..to]) {
+                return Body::Bad(verdicts::found(f, at));
             }
-            Section::Value(tag, to) => {
-                let from = at + 2;
-                match judge_value(kind, today, tag, &s[from..to]) {
-                    Ruling::Breaks(f) => {
-                        return Outcome::Broken(f, at);
-                    }
-                    Ruling::Kept => {
-                        at = to;
-                    }
-                }
-            }
+            let n = to - from;
+            size += element_length(tag, n);
+            at += 2 + n;
         }
     }
-    Outcome::Fine
+    Body::Takes(size)
 }
 
 // "Tags are one byte, except 5F2F".
@@ -191,81 +178,82 @@ fn put_element(tag: u64, v: &[u8], out: &mut [u8]) -> usize
     at
 }
 
-// A third pass: "each element goes into the room that is left after the one before". A torn sheet is written as far as it goes.
-fn put_elements(kind: u64, s: &[u8], out: &mut [u8]) -> usize
-    ensures { λ r. ⌜ Put (encode (table kind) (held (table kind) (now (s .entry)))) (now (out .entry)) (now (out .exit)) r ⌝ }
+// A third pass: "each element goes into the room that is left after the one before".
+fn put_elements(kind: u64, s: &[u8], x: Places, out: &mut [u8]) -> usize
+    requires { ⌜ Inside (x .from) (x .to) (length (now s)) ⌝ }
+    ensures { λ r. ⌜ Put (encode (table kind) (lying kind x (now (s .entry)))) (now (out .entry)) (now (out .exit)) r ⌝ }
 {
+    let froms = x.from;
+    let tos = x.to;
     let mut at = 0;
-    let mut next = 0;
     let mut row: u64 = 0;
-    while next < s.len() {
-        let section = section_at(kind, row, s, next);
+    while row < 16 {
+        let Slot::Holds(tag, _) = kinds::row_at(kind, row) else {
+            return at;
+        };
+        let from = froms[row as usize] as usize;
+        let to = tos[row as usize] as usize;
         row += 1;
-        match section {
-            Section::Torn => {
-                return at;
-            }
-            Section::Absent(_) => {
-                next += 2;
-            }
-            Section::Value(tag, to) => {
-                let from = next + 2;
-                at += put_element(tag, &s[from..to], &mut out[at..]);
-                next = to;
-            }
+        if to != 0 {
+            at += put_element(tag, &s[from..to], &mut out[at..]);
         }
     }
     at
 }
 
 // "A container is an outer tag, a length, and elements; nothing follows."
-fn put_container(kind: u64, s: &[u8], n: usize, out: &mut [u8]) -> usize
-    ensures { λ r. ⌜ Put (outerTag kind ∷ (lengthBytes n ++ encode (table kind) (held (table kind) (now (s .entry))))) (now (out .entry)) (now (out .exit)) r ⌝ }
+fn put_container(kind: u64, s: &[u8], x: Places, n: usize, out: &mut [u8]) -> usize
+    requires { ⌜ Inside (x .from) (x .to) (length (now s)) ⌝ }
+    ensures { λ r. ⌜ Put (boxed kind n (lying kind x (now (s .entry)))) (now (out .entry)) (now (out .exit)) r ⌝ }
 {
     let mut at = room::put_byte(outer_tag(kind), out);
     at += lengths::write_length(n, &mut out[at..]);
-    at += put_elements(kind, s, &mut out[at..]);
+    at += put_elements(kind, s, x, &mut out[at..]);
     at
 }
 
 // Whether the sheet's values make a container that goes into a room of so many bytes: 1, 2, 5, 15, 16 and the values' rules,
 // then 4, 3.
-fn planned(kind: u64, today: u64, sheet: &[u8], room: usize) -> Plan
-    ensures { λ r. ⌜ Planned kind today (now (sheet .entry)) room r ⌝ }
+fn planned(kind: u64, today: u64, sheet: &[u8], x: Places, room: usize) -> Plan
+    requires { ⌜ Apart kind (now sheet) x ⌝ }
+    ensures { λ r. ⌜ Planned kind today (now (sheet .entry)) x room r ⌝ }
 {
     if !kinds::is_kind(kind) {
-        return Plan::Refuse(Fault::UnknownKind, 0);
+        return Plan::Refuse(verdicts::found(Fault::UnknownKind, 0));
     }
     if !dates::is_date(today) {
-        return Plan::Refuse(Fault::NoDate, 0);
+        return Plan::Refuse(verdicts::found(Fault::NoDate, 0));
     }
-    let Body::Takes(n) = body_length(kind, sheet) else {
-        return Plan::Refuse(Fault::TornSheet, 0);
-    };
-    if let Outcome::Broken(f, place) = judge_rows(kind, today, sheet) {
-        return Plan::Refuse(f, place);
+    if !x.whole {
+        return Plan::Refuse(verdicts::found(Fault::TornSheet, 0));
     }
-    let size = 1 + lengths::length_width(n) + n;
-    if 32768 < size {
-        return Plan::Refuse(Fault::LargeContainer, 0);
+    match judge_rows(kind, today, sheet, x) {
+        Body::Bad(f) => Plan::Refuse(f),
+        Body::Takes(n) => {
+            let size = 1 + lengths::length_width(n) + n;
+            if 32768 < size {
+                return Plan::Refuse(verdicts::found(Fault::LargeContainer, 0));
+            }
+            if room < size {
+                return Plan::Refuse(verdicts::found(Fault::SmallRoom, 0));
+            }
+            Plan::Fits(n)
+        }
     }
-    if room < size {
-        return Plan::Refuse(Fault::SmallRoom, 0);
-    }
-    Plan::Fits(n)
 }
 
 // Writes the container of the sheet's values. Only what it leaves of the room is cleared.
 pub fn write(kind: u64, today: u64, sheet: &[u8], container: &mut [u8]) -> Done
     ensures { λ r. ⌜ Leaves (writeOutput kind today (now (sheet .entry)) (length (now (container .entry)))) (now (container .entry)) (now (container .exit)) r ⌝ }
 {
-    match planned(kind, today, sheet, container.len()) {
-        Plan::Refuse(f, place) => {
+    let x = sections(kind, sheet);
+    match planned(kind, today, sheet, x, container.len()) {
+        Plan::Refuse(f) => {
             room::clear(container);
-            verdicts::refused(f, place)
+            verdicts::refused(f)
         }
         Plan::Fits(n) => {
-            let size = put_container(kind, sheet, n, container);
+            let size = put_container(kind, sheet, x, n, container);
             room::clear(&mut container[size..]);
             verdicts::wrote(size)
         }

@@ -1,17 +1,18 @@
 -- `writing::planned` meets its contract: a law of Ways for each way out. Assumes nothing.
-use Prim.Native.Nat.{_+_, _≤_}
 use mathlib.Core.Path.{_≡_, sym, _∙_}
 use mathlib.Core.Bool.{true}
+use mathlib.Core.Option.{some}
 use native.Mathlib.Omega.{arith}
+use lib.ListN.{length}
 use borrow.Author.Needs.{needs}
 use borrow.Author.Tests.{not-true, not-false}
 use Rattle.dates.specs.Date.{isDate}
 use Rattle.kinds.specs.Tables.{table, isKind}
-use Rattle.verdicts.specs.declared.Outcome.the-variants.{Fine}
+use Rattle.container.specs.Container.{Values, encode}
 use Rattle.writing.specs.Writing.{opened, judged}
-use Rattle.writing.specs.Sections.{held, bodyOf, Small}
+use Rattle.writing.specs.Passes.{lying, bodyOf, Small}
 use Rattle.writing.specs.declared.Body.the-variants.{Takes}
-use Rattle.writing.proofs.Ways.{bad-kind, bad-date, torn-sheet, broken, too-large, small-room, written, inside}
+use Rattle.writing.proofs.Ways.{is-torn, is-whole, bad-kind, bad-date, torn-sheet, broken, too-large, small-room, written}
 use Rattle.writing.proofs.planned.Statement.{statement}
 use Rattle.writing.proofs.planned.Tie as tie
 
@@ -19,105 +20,106 @@ use Rattle.writing.proofs.planned.Tie as tie
 a-kind : (e : tie.Else1) → isKind (e .before .before .before .args .kind) ≡ true
 a-kind e = sym (e .before .is-kind .ensures) ∙ not-false _ (e .if1 .left)
 
-dated : (e : tie.Else2) → isDate (e .before .before .before .before .before .args .today) ≡ true
-dated e = sym (e .before .is-date .ensures) ∙ not-false _ (e .if2 .left)
+dated : (f : tie.Else2) → isDate (f .before .before .before .before .before .args .today) ≡ true
+dated f = sym (f .before .is-date .ensures) ∙ not-false _ (f .if2 .left)
 
--- the sheet is whole
-takes : (k : tie.After-known-told) → let a = k .before .before .before .before .before .before .before .before .before .args in
-    Takes (k .before .n .given .0 .0) ≡ bodyOf (table (a .kind)) (opened (table (a .kind)) (a .sheet .now))
-takes k = sym (k .before .n .given .1) ∙ k .before .before .before .body-length .ensures .0
+module _ (w : tie.Else3) where
+  abbrev st : tie.Start
+  st = w .before .before .before .before .before .before .before
 
-few : (k : tie.After-known-told) → Small (Takes (k .before .n .given .0 .0))
-few k = rw (k .before .n .given .1) at (k .before .before .before .body-length .ensures .1)
+  abbrev vs : Values
+  vs = lying (st .args .kind) (st .args .x) (st .args .sheet .now)
 
--- and each value keeps its rules
-fine : (k : tie.After-enum-told2) → let a = k .before .before .before .before .before .before .before .before .before .before .before .before .args in
-    Fine ≡ judged (a .today) (table (a .kind)) (held (table (a .kind)) (a .sheet .now)) 0
-fine k = sym (k .enum-told2 .given .1) ∙ k .before .before .judge-rows .ensures
+  -- the sheet is whole
+  whole : opened (table (st .args .kind)) (st .args .sheet .now) ≡ some vs
+  whole = is-whole (st .pre) (not-false _ (w .if3 .left))
+
+module _ (k : tie.After-known-told2) where
+  abbrev w : tie.Else3
+  w = k .before .before .before .before
+
+  -- and each value keeps its rules
+  takes : Takes (k .before .n .given .0 .0) ≡ bodyOf (judged (st w .args .today) (table (st w .args .kind)) (vs w) 0) (length (encode (table (st w .args .kind)) (vs w)))
+  takes = sym (k .before .n .given .1) ∙ k .before .before .before .judge-rows .ensures .0
+
+  few : Small (Takes (k .before .n .given .0 .0))
+  few = rw (k .before .n .given .1) at (k .before .before .before .judge-rows .ensures .1)
 
 returns : tie.Need-returns
 returns c =
-    let a = c .before .before .before .args in
-    bad-kind (a .kind) (a .today) (a .sheet .now) (a .room) (sym (c .before .is-kind .ensures) ∙ not-true _ (c .if1 .taken))
+    let t = c .before in
+    let a = t .before .before .before .args in
+    rw (c .found .ensures) (bad-kind (a .kind) (a .today) (a .sheet .now) (a .room) (sym (t .before .is-kind .ensures) ∙ not-true _ (t .if1 .taken)))
 
 returns-2 : tie.Need-returns-2
 returns-2 c =
-    let d = c .before in
-    let e = d .before in
+    let t = c .before in
+    let e = t .before .before in
     let a = e .before .before .before .args in
-    bad-date (a .kind) (a .today) (a .sheet .now) (a .room) (a-kind e) (sym (d .is-date .ensures) ∙ not-true _ (c .if2 .taken))
+    rw (c .found2 .ensures) (bad-date (a .kind) (a .today) (a .sheet .now) (a .room) (a-kind e) (sym (t .before .is-date .ensures) ∙ not-true _ (t .if2 .taken)))
 
 returns-3 : tie.Need-returns-3
 returns-3 c =
-    let b = c .before .before in
-    let f = b .before in
+    let t = c .before in
+    let f = t .before .before in
     let e = f .before .before in
     let a = e .before .before .before .args in
-    torn-sheet (a .kind) (a .today) (a .sheet .now) (a .room) (a-kind e) (dated f) (sym (c .enum-told .given .1) ∙ b .body-length .ensures .0)
+    rw (c .found3 .ensures) (torn-sheet (a .kind) (a .today) (a .sheet .now) (a .room) (a-kind e) (dated f) (is-torn (e .before .before .before .pre) (not-true _ (t .if3 .taken))))
 
 returns-4 : tie.Need-returns-4
 returns-4 c =
-    let j = c .before .before .before in
-    let k = j .before in
-    let f = k .before .before .before .before in
-    let e = f .before .before in
-    let a = e .before .before .before .args in
-    broken (a .kind) (a .today) (a .sheet .now) (a .room) (a-kind e) (dated f) (takes k) (sym (c .before .f .given .1) ∙ j .judge-rows .ensures)
+    let t = c .before in
+    let k = t .before .before in
+    let f = w k .before .before in
+    let a = st (w k) .args in
+    rw (c .found4 .ensures) (too-large (a .kind) (a .today) (a .sheet .now) (a .room) (a-kind (f .before .before)) (dated f) (vs (w k)) (whole (w k)) (takes k) (t .before .length-width .ensures .0) (t .if4 .taken))
 
 returns-5 : tie.Need-returns-5
 returns-5 c =
-    let w = c .before in
-    let i = w .before in
-    let k = i .before .before .before in
-    let f = k .before .before .before .before in
-    let e = f .before .before in
-    let a = e .before .before .before .args in
-    too-large (a .kind) (a .today) (a .sheet .now) (a .room) (a-kind e) (dated f) (takes k) (fine i) (w .length-width .ensures .0) (c .if3 .taken)
+    let t = c .before in
+    let l = t .before in
+    let k = l .before .before in
+    let f = w k .before .before in
+    let a = st (w k) .args in
+    rw (c .found5 .ensures)
+    (small-room (a .kind) (a .today) (a .sheet .now) (a .room) (a-kind (f .before .before)) (dated f) (vs (w k)) (whole (w k)) (takes k) (l .before .length-width .ensures .0) (l .if4 .left) (t .if5 .taken))
 
 returns-6 : tie.Need-returns-6
 returns-6 c =
-    let l = c .before in
-    let w = l .before in
-    let i = w .before in
-    let k = i .before .before .before in
-    let f = k .before .before .before .before in
-    let e = f .before .before in
-    let a = e .before .before .before .args in
-    small-room (a .kind) (a .today) (a .sheet .now) (a .room) (a-kind e) (dated f) (takes k) (fine i) (w .length-width .ensures .0) (l .if3 .left) (c .if4 .taken)
+    let j = c .before .before .before in
+    let f = j .before .before .before in
+    let a = st (j .before) .args in
+    broken (a .kind) (a .today) (a .sheet .now) (a .room) (a-kind (f .before .before)) (dated f) (vs (j .before)) (whole (j .before)) (sym (c .before .f .given .1) ∙ j .judge-rows .ensures .0)
 
 returns-7 : tie.Need-returns-7
 returns-7 c =
     let l = c .before in
-    let w = l .before in
-    let i = w .before in
-    let k = i .before .before .before in
-    let f = k .before .before .before .before in
-    let e = f .before .before in
-    let a = e .before .before .before .args in
-    let h : 1 + w .length-width .result + k .before .n .given .0 .0 ≤ a .room = c .if4 .left in (
-      written (a .kind) (a .today) (a .sheet .now) (a .room) (a-kind e) (dated f) (takes k) (fine i) (w .length-width .ensures .0) (l .if3 .left) h,
-      inside (a .kind) (a .today) (a .sheet .now) (a .room) (a-kind e) (dated f) (takes k) (fine i) (w .length-width .ensures .0) (l .if3 .left) h,
-    )
+    let k = l .before .before in
+    let f = w k .before .before in
+    let a = st (w k) .args in
+    written (a .kind) (a .today) (a .sheet .now) (a .room) (a-kind (f .before .before)) (dated f) (vs (w k)) (whole (w k)) (takes k) (l .before .length-width .ensures .0) (l .if4 .left) (c .if5 .left)
 
 pub planned-spec : {M : Type 1} → statement M
 planned-spec =
     tie.close
     (tie.spec
     (λ c κs. search needs)
+    (λ c κs. search needs)
     returns
+    (λ c κs. search needs)
     (λ c κs. search needs)
     returns-2
     (λ c κs. search needs)
-    (λ c. search needs)
-    (λ c. search needs)
     returns-3
     (λ c κs. search needs)
     (λ c. search needs)
-    returns-4
     (λ c. search needs)
     (λ c κs. search needs)
     (λ c. search needs)
-    (λ c. omega (arith, few (c .before .before .before .before)))
+    (λ c. omega (arith, few (c .before)))
+    (λ c κs. search needs)
+    returns-4
+    (λ c κs. search needs)
     returns-5
     returns-6
     returns-7)

@@ -3,7 +3,7 @@ use mathlib.Core.Path.{_∙_}
 use borrow.Author.Needs.{needs}
 use Rattle.laws.proofs.Rooms.{taken-whole}
 use Rattle.verdicts.proofs.Outputs.{refuses, gives-over}
-use Rattle.writing.specs.Plans.{boxed}
+use Rattle.writing.specs.Passes.{lying, boxed}
 use Rattle.writing.proofs.write.Statement.{statement}
 use Rattle.writing.proofs.write.Tie as tie
 
@@ -12,7 +12,7 @@ returns c =
     let z = c .before .before .before in
     let f = z .before .before .before in
     let p = f .before .before in
-    let a = p .before .before .before .args in
+    let a = p .before .before .before .before .args in
     refuses (a .container .now) (rw (f .f .given .1) at (p .planned .ensures)) (z .clear .ensures) (c .refused .ensures)
 
 returns-2 : tie.Need-returns-2
@@ -21,8 +21,8 @@ returns-2 c =
     let w = z .before .before .before .before in
     let n = w .before .before .before in
     let p = n .before .before in
-    let a = p .before .before .before .args in
-    let t = boxed (a .kind) (n .n .given .0 .0) (a .sheet .now) in
+    let a = p .before .before .before .before .args in
+    let t = boxed (a .kind) (n .n .given .0 .0) (lying (a .kind) (p .before .sections .result) (a .sheet .now)) in
     let v = rw (n .n .given .1) at (p .planned .ensures) in
     let e = w .put-container .ensures in
     gives-over t (a .container .now) (v .0) (e .count ∙ taken-whole t (a .container .now) (v .1)) (v .1) (e .room) (z .clear2 .ensures) (c .wrote .ensures)
@@ -31,6 +31,7 @@ pub write-spec : {M : Type 1} → statement M
 write-spec =
     tie.close
     (tie.spec
+    (λ c κs. search needs)
     (λ c κs. search needs)
     (λ c. search needs)
     (λ c κs. search needs)
