@@ -8,7 +8,7 @@ use Rattle.fascn.specs.Fascn.{Conforms as IsFascnOf, IsFascn}
 use Rattle.fascn.specs.declared.Numbers.{Numbers}
 use Rattle.lengths.specs.Length.{Spells}
 use Rattle.dates.specs.Date.{IsDate, InWindow}
-use Rattle.verdicts.specs.Verdicts.{numberOf}
+use Rattle.verdicts.specs.Verdicts.{numberOf, found}
 use Rattle.verdicts.specs.declared.Fault.{Fault}
 use Rattle.rules.specs.Rules.{application}
 use Rattle.container.specs.Container.{Values, container, Conforms}
@@ -42,7 +42,7 @@ Holds (no-date n) = IsDate n → ⊥
 Holds (kept t e) = InWindow t e  -- under the date t the expiry e is kept
 Holds (late t e) = InWindow t e → ⊥
 Holds (conforms kind c) = (vs : Values) × Conforms kind today vs c  -- there are values that are allowed and written as these bytes
-Holds (breaks kind c number place) = (f : Fault) × (number ≡ numberOf f) × Named kind today c f place  -- the first broken rule has this number and place
+Holds (breaks kind c number place) = (f : Fault) × (number ≡ numberOf f) × Named kind today c (found f place)  -- the first broken rule has this number and place
 
 abbrev pub All : List Example → Type 0
 All [] = Unit {0}
