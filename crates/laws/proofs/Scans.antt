@@ -1,7 +1,7 @@
 -- A loop that scans: a test of each element, and two lists compared, from an index on. Assumes nothing.
 use Prim.Native.Nat.{ℕ, _+_, _<_, _≤_}
-use mathlib.Core.Path.{_≡_, sym, ap}
-use mathlib.Core.Bool.{Bool, true, false}
+use mathlib.Core.Path.{_≡_, refl, sym, ap}
+use mathlib.Core.Bool.{Bool, true, false, _&&_}
 use mathlib.Core.List.{List}
 use native.Mathlib.Numerals.{add-one}
 use lib.ListN.{length, getD, drop, drop-of-length-le}
@@ -11,15 +11,15 @@ use Rattle.laws.specs.Tests.{each, same}
 use Rattle.laws.proofs.Cases.{not-so, same-eq}
 
 module _ (f : ℕ → Bool) (s : List ℕ) (i : ℕ) where
-  pub each-end : length s ≤ i → true ≡ each f (drop i s)
-  each-end h = rw (drop-of-length-le s h)
+  -- a test so far, at the end and by one element more
+  pub each-end : length s ≤ i → (so : Bool) → so ≡ (so && each f (drop i s))
+  each-end h true = rw (drop-of-length-le s h)
+  each-end h false = refl
 
   module _ (h : i < length s) where
-    pub each-stop : f (getD s i 0) ≡ false → false ≡ each f (drop i s)
-    each-stop e = rw (drop-cons s i 0 h, e)
-
-    pub each-next : f (getD s i 0) ≡ true → each f (drop (i + 1) s) ≡ each f (drop i s)
-    each-next e = rw (add-one, drop-cons s i 0 h, e)
+    pub each-turn : (so : Bool) → ((so && f (getD s i 0)) && each f (drop (i + 1) s)) ≡ (so && each f (drop i s))
+    each-turn true = rw (add-one, drop-cons s i 0 h)
+    each-turn false = refl
 
 module _ (a b : List ℕ) where
   pub same-long : (length a ≡ length b → ⊥) → false ≡ same a b

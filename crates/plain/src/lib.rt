@@ -46,18 +46,18 @@ fn is_printed(b: u8) -> bool
     (0x20 <= b) & (b <= 0x7E)
 }
 
-// "text, bytes 20 to 7E hex"
+// "text, bytes 20 to 7E hex". Every byte is looked at, so that the compiler takes sixteen at a time.
 pub fn is_text(s: &[u8]) -> bool
     ensures { λ r. ⌜ r ≡ isText (now (s .entry)) ⌝ }
 {
+    let mut text = true;
     let mut i = 0;
     while i < s.len() {
-        if !is_printed(s[i]) {
-            return false;
-        }
+        let printed = is_printed(s[i]);
+        text = text & printed;
         i += 1;
     }
-    true
+    text
 }
 
 // A fixed value is compared with its bytes.
