@@ -1,5 +1,5 @@
--- 01: "OPEN (named values)". "Open values: CHUID agency, system, expires; FINGERS and FACE agency, system; CCC `model 10`; DISCOVERY `policy` with four hex digits; PRINTED
--- `issuer` and tag 06; SECURITY none. Every other value is personal; tags and lengths are open."
+-- 01: "OPEN (named values)", "after its count of lines". "Open values: CHUID agency, system, expires; FINGERS and FACE agency, system; CCC `model 10`;
+-- DISCOVERY `policy` with four hex digits; PRINTED `issuer` and tag 06; SECURITY none. Every other value is personal; tags and lengths are open."
 use Prim.Native.Nat.{ℕ}
 use mathlib.Core.Bool.{cond}
 use mathlib.Core.Option.{Option, none, some}
@@ -70,7 +70,7 @@ openings = opensModel ∷ opensCard 0x30 0x35 ∷ opensPolicy 0x5F2F ∷ opensIs
 abbrev pub openOf : ℕ → Values → Open
 openOf kind vs = openBy (getD (opensNone ∷ openings) kind opensNone) (taggedValue (table kind) vs)
 
--- the section, "after its count of lines": "Numbers are decimal without leading zeros, except today and expires (eight digits) and agency and system (four)"
+-- the section: "Numbers are decimal without leading zeros, except today and expires (eight digits) and agency and system (four)"
 unfoldable pub openPart : Open → List ℕ
 openPart nothing = ascii "OPEN 0\n"
 openPart model = ascii "OPEN 1\nmodel 10\n"
