@@ -22,7 +22,8 @@ use Rattle.container.specs.Reading.{values, fault, Part, located}
 use Rattle.container.specs.Map.{mapOf}
 use Rattle.container.specs.declared.Map.{Map}
 use Rattle.container.proofs.Lying.{Stands, All, stands, startOf, endOf, rows-are, lies}
-use Rattle.views.specs.Views.{View, partOf, shown, viewed, Locates, absence, byMap}
+use Rattle.views.specs.Views.{View, partOf, shown, viewed, Locates}
+use Rattle.views.specs.ByMap.{absence, byMap}
 
 -- a part that lies so
 located-so : {v : View} (c : List ℕ) {n q from to : ℕ} {s : List ℕ} → v ≡ record { number = n; place = q; part = record { offset = from; bytes = s } }

@@ -6,12 +6,10 @@ use mathlib.Core.Bool.{cond}
 use mathlib.Core.Option.{Option, none, some}
 use mathlib.Core.List.{List, [], _∷_}
 use lib.Dec.{eqb}
-use lib.ListN.{length, take, drop, getD}
+use lib.ListN.{length, take, drop}
 use Rattle.verdicts.specs.Verdicts.{numberOf}
 use Rattle.verdicts.specs.declared.Fault.the-variants.{NoElement}
 use Rattle.kinds.specs.Tables.{Table, table}
-use Rattle.kinds.specs.declared.Row.{Row}
-use Rattle.kinds.specs.declared.Row.the-variants.{At, Missing}
 use Rattle.container.specs.Reading.{Parsed, values, fault, Part, located}
 use Rattle.views.specs.declared.Located.{Located}
 
@@ -58,12 +56,3 @@ pub record Answers (v : View) (container : ℕ × ℕ) (number place : ℕ) (par
   pub block-is : part .0 ≡ container .0
   pub offset-is : part .1 ≡ container .1 + v .part .offset
   pub bytes-are : bytes ≡ v .part .bytes
-
--- what a map has of a row, in numbers. Nothing of 01 is said here
-abbrev pub absence : Located
-absence = record { number = 6; place = 0; from = 0; to = 0 }
-
-abbrev pub byMap : Row → List ℕ → List ℕ → Located
-byMap Missing starts ends = absence
-byMap (At i from least most empty rule) starts ends =
-    cond (eqb (getD ends (i - 1) 0) 0) absence (record { number = 0; place = 0; from = getD starts (i - 1) 0; to = getD ends (i - 1) 0 })

@@ -1,7 +1,8 @@
 // "A view gives the element's value as a part of the caller's container; its place and length are fixed."
 ghost use mathlib.Core.Path.{_≡_};
 ghost use Rattle.kinds.specs.Tables.{rowOf};
-ghost use Rattle.views.specs.Views.{viewed, Locates, Answers, byMap};
+ghost use Rattle.views.specs.ByMap.{absence, byMap};
+ghost use Rattle.views.specs.Views.{viewed, Locates, Answers};
 use container::Map;
 use kinds::Row;
 use verdicts::Outcome;
@@ -16,7 +17,7 @@ pub struct Located {
 
 // No such element: 6.
 fn absent() -> Located
-    ensures { λ r. ⌜ r ≡ record { number = 6; place = 0; from = 0; to = 0 } ⌝ }
+    ensures { λ r. ⌜ r ≡ absence ⌝ }
 {
     Located {
         number: 6,
