@@ -29,9 +29,9 @@ use Rattle.container.specs.Map.{rowValue, shown}
 use Rattle.container.proofs.Rows.{Distinct}
 use Rattle.container.proofs.Tags.{distinct, tags, Plain, Tags, short, double}
 use Rattle.writing.specs.Writing.{keptOr, judged}
-use Rattle.writing.specs.Passes.{judgedBy, bodyOf, elementBytes}
-use Rattle.writing.specs.declared.Body.{Body}
-use Rattle.writing.specs.declared.Body.the-variants.{Bad, Takes}
+use Rattle.writing.specs.Passes.{judgedBy, planOf, elementBytes}
+use Rattle.writing.specs.declared.Plan.{Plan}
+use Rattle.writing.specs.declared.Plan.the-variants.{Refuse, Takes}
 
 -- ---- the row with a number, and the rows after it
 
@@ -129,10 +129,10 @@ module _ (kind : ℕ) (s from to : List ℕ) where
 
   module _ (today : ℕ) where
     -- to judge, where the counts so far end at `at` and the elements so far take `size` bytes
-    unfoldable pub bodyFrom : ℕ → ℕ → ℕ → Body
-    bodyFrom i at size = bodyOf (judged today (drop i (table kind)) (vals i) at) (size + length (encode (drop i (table kind)) (vals i)))
+    unfoldable pub bodyFrom : ℕ → ℕ → ℕ → Plan
+    bodyFrom i at size = planOf (judged today (drop i (table kind)) (vals i) at) (size + length (encode (drop i (table kind)) (vals i)))
 
-    pub body-all : bodyFrom 0 0 0 ≡ bodyOf (judged today (table kind) (shown from to s (length (table kind)) 0) 0) (length (encode (table kind) (shown from to s (length (table kind)) 0)))
+    pub body-all : bodyFrom 0 0 0 ≡ planOf (judged today (table kind) (shown from to s (length (table kind)) 0) 0) (length (encode (table kind) (shown from to s (length (table kind)) 0)))
     unfolding bodyFrom
     body-all = rw zero-add
 
@@ -155,7 +155,7 @@ module _ (kind : ℕ) (s from to : List ℕ) where
       text-absent = rw (vals-absent, k .split)
 
       module _ (today at size : ℕ) where
-        pub body-missing : optional ≡ false → Bad (found MissingRow at) ≡ bodyFrom today i at size
+        pub body-missing : optional ≡ false → Refuse (found MissingRow at) ≡ bodyFrom today i at size
         unfolding bodyFrom
         body-missing o = rw (vals-absent, k .split, k .optional-is, o)
 
@@ -181,7 +181,7 @@ module _ (kind : ℕ) (s from to : List ℕ) where
             let q : judgedBy (rowOf kind tag) today v ≡ judgedAs (k .row) today v = rw (← k .tag-is) (by-row today v i (table kind) 0 0 (distinct kind) (k .split)) in
             rw (vals-value, k .split, q) (judged-some today (k .row) (drop (i + 1) (table kind)) v (vals (i + 1)) at)
 
-        pub body-broken : {f : Fault} → Breaks f ≡ judgedBy (rowOf kind tag) today v → Bad (found f at) ≡ bodyFrom today i at size
+        pub body-broken : {f : Fault} → Breaks f ≡ judgedBy (rowOf kind tag) today v → Refuse (found f at) ≡ bodyFrom today i at size
         unfolding bodyFrom
         body-broken b = rw (judged-value, ← b)
 
@@ -192,4 +192,4 @@ module _ (kind : ℕ) (s from to : List ℕ) where
             let p : at + (2 + n) ≡ at + 2 + length v = omega arith in
             let g′ : m ≡ length (tagBytes tag) + length (lengthBytes (length v)) + length v = rw l at g in
             let t : length (textFrom i) ≡ length (tagBytes tag) + length (lengthBytes (length v)) + length v + length (textFrom (i + 1)) = rw text-value (simp length-append (omega arith)) in
-            rw (judged-value, ← b, p) (ap (bodyOf (judged today (drop (i + 1) (table kind)) (vals (i + 1)) (at + 2 + length v))) (omega (arith, t)))
+            rw (judged-value, ← b, p) (ap (planOf (judged today (drop (i + 1) (table kind)) (vals (i + 1)) (at + 2 + length v))) (omega (arith, t)))

@@ -1,7 +1,7 @@
 // Writes a container from a value sheet: 1, 2, 5, then row by row 15, 16 and the value's rules, then 4, 3.
 ghost use mathlib.Core.Path.{_≡_};
 ghost use mathlib.Core.List.{_∷_, _++_};
-ghost use Prim.Native.Nat.{_<_, _≤_, _+_};
+ghost use Prim.Native.Nat.{_<_, _≤_, _+_, _*_};
 ghost use lib.ListN.{length};
 ghost use Rattle.laws.specs.Room.{Put};
 ghost use Rattle.kinds.specs.Tables.{table, rowOf, permits};
@@ -10,7 +10,7 @@ ghost use Rattle.verdicts.specs.Output.{Leaves};
 ghost use Rattle.container.specs.Container.{tagBytes, encode};
 ghost use Rattle.container.specs.Map.{Inside};
 ghost use Rattle.writing.specs.Writing.{judged, writeOutput};
-ghost use Rattle.writing.specs.Passes.{furthest, lying, Apart, judgedBy, bodyOf, Small, elementBytes, boxed, Planned};
+ghost use Rattle.writing.specs.Passes.{furthest, lying, Apart, judgedBy, planOf, Small, elementBytes, boxed, fitted, Planned};
 use container::outer_tag;
 use container::permitted;
 use kinds::Row;
@@ -27,20 +27,12 @@ struct Places {
     to: [u32; 16],
 }
 
-// What the values come to.
-enum Body {
-    // The first finding.
-    Bad(Finding),
-    // Each keeps its rules: the elements take so many bytes.
-    Takes(usize),
-}
-
 // What is to be done with a sheet.
 enum Plan {
     // It is refused.
     Refuse(Finding),
-    // Its container goes into the room: the elements take so many bytes.
-    Fits(usize),
+    // Its container is written: the elements take so many bytes.
+    Takes(usize),
 }
 
 // A byte as an index: its value, and that it is one of 256.
@@ -120,9 +112,9 @@ fn judge_value(kind: u64, today: u64, tag: u64, v: &[u8]) -> Ruling
 }
 
 // A second pass: "row by row 15, 16 and the value's rules, with the place of the row's count".
-fn judge_rows(kind: u64, today: u64, s: &[u8], x: Places) -> Body
+fn judge_rows(kind: u64, today: u64, s: &[u8], x: Places) -> Plan
     requires { ⌜ Inside (x .from) (x .to) (length (now s)) × Inside (x .from) (x .to) furthest ⌝ }
-    ensures { λ r. ⌜ r ≡ bodyOf (judged today (table kind) (lying kind x (now (s .entry))) 0) (length (encode (table kind) (lying kind x (now (s .entry))))) ⌝ }
+    ensures { λ r. ⌜ r ≡ planOf (judged today (table kind) (lying kind x (now (s .entry))) 0) (length (encode (table kind) (lying kind x (now (s .entry))))) ⌝ }
     ensures { λ r. ⌜ Small r ⌝ }
 {
     let froms = x.from;
@@ -132,26 +124,26 @@ fn judge_rows(kind: u64, today: u64, s: &[u8], x: Places) -> Body
     let mut row: u64 = 0;
     while row < 16 {
         let Slot::Holds(tag, optional) = kinds::row_at(kind, row) else {
-            return Body::Takes(size);
+            return Plan::Takes(size);
         };
         let from = froms[row as usize] as usize;
         let to = tos[row as usize] as usize;
         row += 1;
         if to == 0 {
             if !optional {
-                return Body::Bad(verdicts::found(Fault::MissingRow, at));
+                return Plan::Refuse(verdicts::found(Fault::MissingRow, at));
             }
             at += 2;
         } else {
             if let Ruling::Breaks(f) = judge_value(kind, today, tag, &s[from..to]) {
-                return Body::Bad(verdicts::found(f, at));
+                return Plan::Refuse(verdicts::found(f, at));
             }
             let n = to - from;
             size += element_length(tag, n);
             at += 2 + n;
         }
     }
-    Body::Takes(size)
+    Plan::Takes(size)
 }
 
 // "Tags are one byte, except 5F2F".
@@ -212,6 +204,21 @@ fn put_container(kind: u64, s: &[u8], x: Places, n: usize, out: &mut [u8]) -> us
     at
 }
 
+// A container of so many bytes of elements: 4, 3.
+fn fitted(n: usize, room: usize) -> Plan
+    requires { ⌜ n ≤ 16 * (furthest + 5) ⌝ }
+    ensures { λ r. ⌜ r ≡ fitted n room ⌝ }
+{
+    let size = 1 + lengths::length_width(n) + n;
+    if 32768 < size {
+        return Plan::Refuse(verdicts::found(Fault::LargeContainer, 0));
+    }
+    if room < size {
+        return Plan::Refuse(verdicts::found(Fault::SmallRoom, 0));
+    }
+    Plan::Takes(n)
+}
+
 // Whether the sheet's values make a container that goes into a room of so many bytes: 1, 2, 5, 15, 16 and the values' rules,
 // then 4, 3.
 fn planned(kind: u64, today: u64, sheet: &[u8], x: Places, room: usize) -> Plan
@@ -228,17 +235,8 @@ fn planned(kind: u64, today: u64, sheet: &[u8], x: Places, room: usize) -> Plan
         return Plan::Refuse(verdicts::found(Fault::TornSheet, 0));
     }
     match judge_rows(kind, today, sheet, x) {
-        Body::Bad(f) => Plan::Refuse(f),
-        Body::Takes(n) => {
-            let size = 1 + lengths::length_width(n) + n;
-            if 32768 < size {
-                return Plan::Refuse(verdicts::found(Fault::LargeContainer, 0));
-            }
-            if room < size {
-                return Plan::Refuse(verdicts::found(Fault::SmallRoom, 0));
-            }
-            Plan::Fits(n)
-        }
+        Plan::Refuse(f) => Plan::Refuse(f),
+        Plan::Takes(n) => fitted(n, room),
     }
 }
 
@@ -252,7 +250,7 @@ pub fn write(kind: u64, today: u64, sheet: &[u8], container: &mut [u8]) -> Done
             room::clear(container);
             verdicts::refused(f)
         }
-        Plan::Fits(n) => {
+        Plan::Takes(n) => {
             let size = put_container(kind, sheet, x, n, container);
             room::clear(&mut container[size..]);
             verdicts::wrote(size)

@@ -2,17 +2,13 @@
 use mathlib.Core.Path.{_≡_, sym, _∙_}
 use mathlib.Core.Bool.{true}
 use mathlib.Core.Option.{some}
-use native.Mathlib.Omega.{arith}
-use lib.ListN.{length}
 use borrow.Author.Needs.{needs}
 use borrow.Author.Tests.{not-true, not-false}
 use Rattle.dates.specs.Date.{isDate}
 use Rattle.kinds.specs.Tables.{table, isKind}
-use Rattle.container.specs.Container.{Values, encode}
-use Rattle.writing.specs.Writing.{opened, judged}
-use Rattle.writing.specs.Passes.{lying, bodyOf, Small}
-use Rattle.writing.specs.declared.Body.the-variants.{Takes}
-use Rattle.writing.proofs.Ways.{is-torn, is-whole, bad-kind, bad-date, torn-sheet, broken, too-large, small-room, written}
+use Rattle.writing.specs.Writing.{opened}
+use Rattle.writing.specs.Passes.{lying}
+use Rattle.writing.proofs.Ways.{is-torn, is-whole, bad-kind, bad-date, torn-sheet, broken, fits}
 use Rattle.writing.proofs.planned.Statement.{statement}
 use Rattle.writing.proofs.planned.Tie as tie
 
@@ -23,27 +19,9 @@ a-kind e = sym (e .before .is-kind .ensures) ∙ not-false _ (e .if1 .left)
 dated : (f : tie.Else2) → isDate (f .before .before .before .before .before .args .today) ≡ true
 dated f = sym (f .before .is-date .ensures) ∙ not-false _ (f .if2 .left)
 
-module _ (w : tie.Else3) where
-  abbrev st : tie.Start
-  st = w .before .before .before .before .before .before .before
-
-  abbrev vs : Values
-  vs = lying (st .args .kind) (st .args .x) (st .args .sheet .now)
-
-  -- the sheet is whole
-  whole : opened (table (st .args .kind)) (st .args .sheet .now) ≡ some vs
-  whole = is-whole (st .pre) (not-false _ (w .if3 .left))
-
-module _ (k : tie.After-known-told2) where
-  abbrev w : tie.Else3
-  w = k .before .before .before .before
-
-  -- and each value keeps its rules
-  takes : Takes (k .before .n .given .0 .0) ≡ bodyOf (judged (st w .args .today) (table (st w .args .kind)) (vs w) 0) (length (encode (table (st w .args .kind)) (vs w)))
-  takes = sym (k .before .n .given .1) ∙ k .before .before .before .judge-rows .ensures .0
-
-  few : Small (Takes (k .before .n .given .0 .0))
-  few = rw (k .before .n .given .1) at (k .before .before .before .judge-rows .ensures .1)
+-- the sheet is whole
+whole : (w : tie.Else3) → let a = w .before .before .before .before .before .before .before .args in opened (table (a .kind)) (a .sheet .now) ≡ some (lying (a .kind) (a .x) (a .sheet .now))
+whole w = is-whole (w .before .before .before .before .before .before .before .pre) (not-false _ (w .if3 .left))
 
 returns : tie.Need-returns
 returns c =
@@ -68,36 +46,22 @@ returns-3 c =
 
 returns-4 : tie.Need-returns-4
 returns-4 c =
-    let t = c .before in
-    let k = t .before .before in
-    let f = w k .before .before in
-    let a = st (w k) .args in
-    rw (c .found4 .ensures) (too-large (a .kind) (a .today) (a .sheet .now) (a .room) (a-kind (f .before .before)) (dated f) (vs (w k)) (whole (w k)) (takes k) (t .before .length-width .ensures .0) (t .if4 .taken))
+    let j = c .before .before .before in
+    let w = j .before in
+    let f = w .before .before in
+    let e = f .before .before in
+    let a = e .before .before .before .args in
+    broken (a .kind) (a .today) (a .sheet .now) (a .room) (a-kind e) (dated f) (a .x) (whole w) (sym (c .before .f .given .1) ∙ j .judge-rows .ensures .0)
 
 returns-5 : tie.Need-returns-5
 returns-5 c =
-    let t = c .before in
-    let l = t .before in
-    let k = l .before .before in
-    let f = w k .before .before in
-    let a = st (w k) .args in
-    rw (c .found5 .ensures)
-    (small-room (a .kind) (a .today) (a .sheet .now) (a .room) (a-kind (f .before .before)) (dated f) (vs (w k)) (whole (w k)) (takes k) (l .before .length-width .ensures .0) (l .if4 .left) (t .if5 .taken))
-
-returns-6 : tie.Need-returns-6
-returns-6 c =
-    let j = c .before .before .before in
-    let f = j .before .before .before in
-    let a = st (j .before) .args in
-    broken (a .kind) (a .today) (a .sheet .now) (a .room) (a-kind (f .before .before)) (dated f) (vs (j .before)) (whole (j .before)) (sym (c .before .f .given .1) ∙ j .judge-rows .ensures .0)
-
-returns-7 : tie.Need-returns-7
-returns-7 c =
-    let l = c .before in
-    let k = l .before .before in
-    let f = w k .before .before in
-    let a = st (w k) .args in
-    written (a .kind) (a .today) (a .sheet .now) (a .room) (a-kind (f .before .before)) (dated f) (vs (w k)) (whole (w k)) (takes k) (l .before .length-width .ensures .0) (l .if4 .left) (c .if5 .left)
+    let k = c .before in
+    let j = k .before .before .before in
+    let w = j .before in
+    let f = w .before .before in
+    let e = f .before .before in
+    let a = e .before .before .before .args in
+    rw (c .fitted .ensures) (fits (a .kind) (a .today) (a .sheet .now) (a .room) (a-kind e) (dated f) (a .x) (whole w) (sym (k .before .n .given .1) ∙ j .judge-rows .ensures .0))
 
 pub planned-spec : {M : Type 1} → statement M
 planned-spec =
@@ -114,12 +78,6 @@ planned-spec =
     (λ c κs. search needs)
     (λ c. search needs)
     (λ c. search needs)
-    (λ c κs. search needs)
-    (λ c. search needs)
-    (λ c. omega (arith, few (c .before)))
-    (λ c κs. search needs)
+    (λ c κs. rw (c .before .n .given .1) at (c .before .before .before .judge-rows .ensures .1))
     returns-4
-    (λ c κs. search needs)
-    returns-5
-    returns-6
-    returns-7)
+    returns-5)
