@@ -15,6 +15,7 @@ use container::outer_tag;
 use container::permitted;
 use kinds::Row;
 use kinds::Slot;
+use kinds::ValueRule;
 use verdicts::Done;
 use verdicts::Fault;
 use verdicts::Finding;
@@ -33,13 +34,6 @@ enum Plan {
     Refuse(Finding),
     // Its container is written: the elements take so many bytes.
     Takes(usize),
-}
-
-// A byte as an index: its value, and that it is one of 256.
-fn wide(x: u8) -> usize
-    ensures { λ r. ⌜ (r ≡ x) × (r < 256) ⌝ }
-{
-    x as usize
 }
 
 // A first pass, from count to count: "a two-byte big-endian count, 0 for absent, else n + 1, then n bytes". The sheet is torn
@@ -63,7 +57,7 @@ fn sections(kind: u64, s: &[u8]) -> Places
                 to: to,
             };
         }
-        let count = wide(s[at]) * 256 + wide(s[at + 1]);
+        let count = numbers::index(s[at]) * 256 + numbers::index(s[at + 1]);
         if count == 0 {
             at += 2;
         } else {
@@ -106,7 +100,11 @@ fn judge_value(kind: u64, today: u64, tag: u64, v: &[u8]) -> Ruling
             if !permitted(v.len(), least, most, empty) {
                 return Ruling::Breaks(Fault::ElementLength);
             }
-            rules::judge(rule, today, v)
+            match rule {
+                // most values are free: they are told here, without a call
+                ValueRule::Free => Ruling::Kept,
+                _ => rules::judge(rule, today, v),
+            }
         }
     }
 }

@@ -4,6 +4,7 @@ use borrow.Author.Needs.{needs}
 use borrow.Author.Tests.{not-true, not-false}
 use Rattle.kinds.specs.Tables.{rowOf}
 use Rattle.kinds.specs.declared.Row.the-variants.{At}
+use Rattle.rules.specs.Rules.{ruleOf}
 use Rattle.writing.proofs.Judging.{no-such, wrong-size, by-rule}
 use Rattle.writing.proofs.judge_value.Statement.{statement}
 use Rattle.writing.proofs.judge_value.Tie as tie
@@ -24,12 +25,23 @@ returns-2 c =
     let a = c .before .before .before .before .args in
     no-such (a .today) (a .v .now) (sym (c .enum-told .given .1) ∙ c .before .before .row-of .ensures)
 
+-- a value without a rule keeps it
 returns-3 : tie.Need-returns-3
+unfolding ruleOf
 returns-3 c =
-    let p = c .before .before in
+    let e = c .before .before in
+    let p = e .before in
     let k = p .before in
     let a = k .before .before .before .before .before .args in
-    by-rule (a .today) (a .v .now) (row k) (sym (p .permitted .ensures) ∙ not-false _ (c .before .if1 .left)) (c .judge .ensures)
+    by-rule (a .today) (a .v .now) (row k) (sym (p .permitted .ensures) ∙ not-false _ (e .if1 .left)) (rw (c .enum-told2 .given .1))
+
+returns-4 : tie.Need-returns-4
+returns-4 c =
+    let e = c .before .before in
+    let p = e .before in
+    let k = p .before in
+    let a = k .before .before .before .before .before .args in
+    by-rule (a .today) (a .v .now) (row k) (sym (p .permitted .ensures) ∙ not-false _ (e .if1 .left)) (c .judge .ensures)
 
 pub judge-value-spec : {M : Type 1} → statement M
 judge-value-spec =
@@ -40,6 +52,8 @@ judge-value-spec =
     (λ c. search needs)
     (λ c κs. search needs)
     returns
+    (λ c. search needs)
     (λ c κs. search needs)
     returns-2
-    returns-3)
+    returns-3
+    returns-4)

@@ -54,7 +54,7 @@ loop-again c =
       l .loop .inv .3,
       l .loop .inv .4,
       l .loop .inv .5,
-      absent (a .kind) (a .s .now) (l .loop .from) (l .loop .to) (l .loop .at) (l .loop .row) (l .loop .inv .6) (next (e .before)) (two e) (v .wide .result) (w .wide2 .result) (v .wide .ensures .0) (w .wide2 .ensures .0) (c .if2 .taken),
+      absent (a .kind) (a .s .now) (l .loop .from) (l .loop .to) (l .loop .at) (l .loop .row) (l .loop .inv .6) (next (e .before)) (two e) (v .index .result) (w .index2 .result) (v .index .ensures .0) (w .index2 .ensures .0) (c .if2 .taken),
     )
 
 returns-2 : tie.Need-returns-2 Inv-loop μ-loop
@@ -66,7 +66,7 @@ returns-2 c =
     let a = l .before .before .before .args in
     let n = l .loop .inv .6 in
     record {
-      opens = cut-short (a .kind) (a .s .now) (l .loop .from) (l .loop .to) (l .loop .at) (l .loop .row) n (next (e .before)) (two e) (v .wide .result) (w .wide2 .result) (v .wide .ensures .0) (w .wide2 .ensures .0) (c .before .if2 .left) (c .if3 .taken);
+      opens = cut-short (a .kind) (a .s .now) (l .loop .from) (l .loop .to) (l .loop .at) (l .loop .row) n (next (e .before)) (two e) (v .index .result) (w .index2 .result) (v .index .ensures .0) (w .index2 .ensures .0) (c .before .if2 .left) (c .if3 .taken);
       inside = n .inside;
       near = n .near;
     }
@@ -84,7 +84,7 @@ loop-again-2 c =
       l .loop .inv .3,
       simp length-set (l .loop .inv .4),
       simp length-set (l .loop .inv .5),
-      value (a .kind) (a .s .now) (l .loop .from) (l .loop .to) (l .loop .at) (l .loop .row) (l .loop .inv .6) (next (e .before)) (two e) (v .wide .result) (w .wide2 .result) (v .wide .ensures .0) (w .wide2 .ensures .0) (c .before .if2 .left) (c .if3 .left)
+      value (a .kind) (a .s .now) (l .loop .from) (l .loop .to) (l .loop .at) (l .loop .row) (l .loop .inv .6) (next (e .before)) (two e) (v .index .result) (w .index2 .result) (v .index .ensures .0) (w .index2 .ensures .0) (c .before .if2 .left) (c .if3 .left)
           (l .loop .inv .4) (l .loop .inv .5) (omega (arith, few (e .before))) (omega (arith, few (e .before))),
     )
 
