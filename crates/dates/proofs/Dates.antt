@@ -143,14 +143,6 @@ text-not s = (sound, complete)
           | inr q ↦ rw q
         ]
 
--- one text for one number
-pub one-text : (s t : List ℕ) (n : ℕ) → IsTextOf s n → IsTextOf t n → s ≡ t
-one-text s t n p q = text-of s n p .0 ∙ sym (text-of t n q .0)
-
--- one number for one text
-pub one-number : (s : List ℕ) (m n : ℕ) → IsTextOf s m → IsTextOf s n → m ≡ n
-one-number s m n p q = let e : dateOf s ≡ Is m = text-exact s m .1 p in let f : dateOf s ≡ Is n = text-exact s n .1 q in cc
-
 -- a date's number has at most eight digits
 pub eight-digits : (s : List ℕ) (n : ℕ) → IsTextOf s n → n < 100000000
 eight-digits s n r = text-of s n r .1

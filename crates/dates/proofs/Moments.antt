@@ -18,7 +18,7 @@ use Rattle.dates.specs.declared.Moment.the-variants.{At, Never}
 use Rattle.dates.specs.Calendar.{exists}
 use Rattle.dates.specs.Moment.{Fields, Happens, IsMoment, NotAfter, isMoment, momentOf}
 use Rattle.laws.proofs.Layouts.{by-entries}
-use Rattle.dates.proofs.Calendars.{exists-exact, days-most}
+use Rattle.dates.proofs.Calendars.{exists-exact}
 
 -- the test is true exactly where these bytes are a binary date
 pub moment-exact : (s : List ℕ) → (isMoment s ≡ true) ↔ IsMoment s
@@ -145,19 +145,6 @@ order-exact (x ∷ s) [] p q l = absurd (omega arith)
 order-exact (x ∷ s) (y ∷ t) p q l =
     let m : length s ≡ length t = omega arith in
     order-next x y s t (p .1) (q .1) m (order-exact s t (p .1) (q .1) m)
-
--- a binary date's bytes are eight, and bytes
-pub moment-bytes : (s : List ℕ) → IsMoment s → Bytes s × (length s ≡ 8)
-moment-bytes s (f, h, e) = let g = days-most (f .century * 100 + f .year) (f .month) in (rw e (omega arith), rw e)
-
--- so the numbers that two moments are read as tell whether the one is not after the other
-pub moments-order : (s t : List ℕ) (m n : ℕ) → momentOf s ≡ At m → momentOf t ≡ At n → (m ≤ n) ↔ NotAfter s t
-moments-order s t m n p q =
-    let (u, e) = moment-at s m .0 p in
-    let (v, f) = moment-at t n .0 q in
-    let (a, k) = moment-bytes s u in
-    let (b, l) = moment-bytes t v in
-    rw (e, f) (order-exact s t a b (omega arith))
 
 -- ---- the ways out of `moment_of`
 

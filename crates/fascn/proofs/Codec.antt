@@ -1,5 +1,5 @@
--- Decoding succeeds with some numbers exactly where the bytes are theirs; what is written is read back; no two numbers share bytes. Assumes nothing.
-use mathlib.Core.Path.{_≡_, refl, sym, ap, _∙_}
+-- Decoding succeeds with some numbers exactly where the bytes are theirs. Assumes nothing.
+use mathlib.Core.Path.{_≡_, sym, ap, _∙_}
 use mathlib.Core.Bool.{Bool, true, false, _&&_}
 use mathlib.Core.Logic.{_↔_, inl, inr}
 use mathlib.Core.List.{List}
@@ -10,7 +10,7 @@ use lib.ListN.{length}
 use borrow.Author.Tests.{eqb-true, eq-eqb}
 use Rattle.laws.specs.Bytes.{Bytes}
 use Rattle.laws.proofs.Cases.{which, and-true, and-is, not-so}
-use Rattle.fascn.specs.Fascn.{encoded, InRange, Conforms, IsFascn}
+use Rattle.fascn.specs.Fascn.{encoded, Conforms, IsFascn}
 use Rattle.fascn.specs.Calls.{success, refused}
 use Rattle.fascn.specs.Reading.{valuesOf, framed, fields, decoded, isFascn}
 use Rattle.fascn.specs.declared.Numbers.{Numbers}
@@ -59,16 +59,6 @@ decoded-exact s b n = (sound s b n, complete s n)
 pub else-refused : (s : List ℕ) → Bytes s → (IsFascn s → ⊥) → decoded s ≡ refused
 unfolding decoded
 else-refused s b none = rw (not-so (passes s) (λ p. none (fields (valuesOf s), passed s b p)))
-
--- there and back, and no two numbers share bytes
-pub round-trip : (n : Numbers) → InRange n → decoded (encoded n) ≡ success n
-round-trip n r = complete (encoded n) n (record { in-range = r; written = refl })
-
-pub back-trip : (s : List ℕ) → Bytes s → (n : Numbers) → decoded s ≡ success n → encoded n ≡ s
-back-trip s b n e = sym (sound s b n e .written)
-
-pub one-to-one : (m n : Numbers) → InRange m → InRange n → encoded m ≡ encoded n → m ≡ n
-one-to-one m n r q e = ap (λ (a : Decoded). a .numbers) (sym (round-trip m r) ∙ ap decoded e ∙ round-trip n q)
 
 -- the test alone
 pub fascn-exact : (s : List ℕ) → Bytes s → (isFascn s ≡ true) ↔ IsFascn s

@@ -27,10 +27,6 @@ pub length-encoded : (n : Numbers) → length (encoded n) ≡ 25
 unfolding encoded digits
 length-encoded n = refl
 
-pub bytes-encoded : (n : Numbers) → Bytes (encoded n)
-unfolding encoded
-bytes-encoded n = below-digits 256 (lit< tt) 25 (value 32 (characters n))
-
 -- ---- writing, eight characters a group
 
 pub encoded-groups : (n : Numbers) → groups 32 8 256 5 5 0 (characters n) ≡ encoded n

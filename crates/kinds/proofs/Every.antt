@@ -1,20 +1,18 @@
 -- What holds of every kind: one test, computed over the list of tables, holds of the table of any number. Assumes nothing.
 use Prim.Native.Nat.{ℕ, _+_, _≤_, _<_}
-use mathlib.Core.Path.{_≡_, refl, sym, ap, _∙_}
+use mathlib.Core.Path.{_≡_, refl}
 use mathlib.Core.Bool.{Bool, true, cond}
 use mathlib.Core.Logic.{inl, inr}
 use mathlib.Core.List.{[], _∷_}
 use native.Mathlib.Omega.{arith}
-use native.Mathlib.Decide.{decLt}
 use lib.Dec.{leb, eqb}
-use lib.ListN.{length, drop-of-length-le, List·getD-eq-default}
+use lib.ListN.{length}
 use borrow.Author.Tests.{leb-true, eqb-true}
 use Rattle.laws.specs.Tests.{allBelow}
 use Rattle.laws.proofs.Cases.{which, at-each, along}
-use Rattle.kinds.specs.Tables.{Table, tables, table, find, rowOf, first, rowAt, lastOf, lastRow}
+use Rattle.kinds.specs.Tables.{Table, tables, table, find, rowOf, lastOf, lastRow}
 use Rattle.kinds.specs.declared.ValueRule.{ValueRule}
 use Rattle.kinds.specs.declared.Row.the-variants.{At}
-use Rattle.kinds.specs.declared.Slot.the-variants.{Holds, End}
 
 -- a test that sees the kind's number too, and holds of any number without rows
 pub of-every-kind : (test : ℕ → Table → Bool) → allBelow (λ k. test k (table k)) (length ([] ∷ tables)) ≡ true → ((k : ℕ) → test k [] ≡ true)
@@ -24,10 +22,6 @@ of-every-kind test t e kind = along ([] ∷ tables) [] test t e kind
 -- a test of the table alone: number 0 is the one without rows
 pub of-every : (test : Table → Bool) → allBelow (λ k. test (table k)) (length ([] ∷ tables)) ≡ true → (kind : ℕ) → test (table kind) ≡ true
 of-every test t = of-every-kind (λ k rows. test rows) t (λ k. at-each (λ k. test (table k)) (length ([] ∷ tables)) t 0 (omega arith))
-
--- a number past the last kind
-pub no-table : (kind : ℕ) → length ([] ∷ tables) ≤ kind → table kind ≡ []
-no-table kind h = List·getD-eq-default ([] ∷ tables) [] h
 
 -- ---- no table has more than fifteen rows
 
@@ -39,18 +33,6 @@ few-rows kind = leb-true _ _ (of-every (λ rows. leb (length rows) 15) refl kind
 pub last-is-all : (kind : ℕ) → lastRow kind ≡ length (table kind)
 unfolding allBelow
 last-is-all kind = eqb-true _ _ (of-every (λ rows. eqb (lastOf 0 0 rows) (length rows)) refl kind)
-
--- a row that is there is one of the first fifteen
-pub row-few : (kind n : ℕ) {tag : ℕ} {optional : Bool} → rowAt kind n ≡ Holds tag optional → n < 15
-row-few kind n {tag} {optional} e =
-    elim (decLt n 15) [
-      | yes h ↦ h
-      | no h ↦
-          let g : length (table kind) ≤ n = omega (arith, few-rows kind) in
-          let p : Holds tag optional ≡ End = sym e ∙ ap first (drop-of-length-le (table kind) g) in
-          let z : _≡_ {A = ℕ} 0 1 = cc in
-          absurd (omega arith)
-    ]
 
 -- a row that a tag has is one of them too
 pub found-row : (rs : Table) (i from t : ℕ) {j f least most : ℕ} {empty : Bool} {rule : ValueRule} → find i from rs t ≡ At j f least most empty rule

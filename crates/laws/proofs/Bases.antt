@@ -2,7 +2,7 @@
 use mathlib.Core.Path.{_≡_, refl, sym, ap, _∙_}
 use mathlib.Core.List.{List, [], _∷_, _++_}
 use Prim.Native.Nat.{ℕ, zero, suc, _+_, _-_, _*_, _/_, _%_, _^_, _≤_, _<_}
-use native.Mathlib.Nat.{mul-one, mul-comm, mul-assoc, add-mul, suc-mul, suc-add, zero-add, add-zero, zero-mul, pow-zero, pow-suc, div-div-eq-div-mul, mul-add-div-right, mul-add-mod-self-right, add-comm, mod-one, mod-lt, mod-eq-of-lt, mul-pos, not-suc-le-zero, le-of-suc-le-suc}
+use native.Mathlib.Nat.{mul-one, mul-comm, mul-assoc, add-mul, suc-mul, suc-add, zero-add, add-zero, zero-mul, pow-zero, pow-suc, div-div-eq-div-mul, mul-add-div-right, mul-add-mod-self-right, add-comm, mod-one, mod-lt, mod-eq-of-lt, mul-pos}
 use native.Mathlib.Omega.{arith}
 use lib.Arith.{digits-lt, digits-div, digits-mod, mod-mul}
 use lib.Pow.{pow-add}
@@ -102,12 +102,6 @@ module _ (b : ℕ) (pos : 0 < b) where
       rw (digits-read (n * b + d) ds (h .1), read-split (n * b + d) ds, digits-div (n * b + d) (value-lt ds (h .1)), digits-mod n (h .0))
 
   -- ---- a digit, and a run of digits, is a window of the number
-
-  pub getD-digits : (n x k : ℕ) → k < n → getD (digits b n x) k 0 ≡ x / b ^ (n - suc k) % b
-  unfolding digits
-  getD-digits zero x k h = absurd (not-suc-le-zero h)
-  getD-digits (suc n) x zero h = let e : suc n - 1 ≡ n = omega arith in rw e
-  getD-digits (suc n) x (suc k) h = let e : suc n - suc (suc k) ≡ n - suc k = omega arith in rw e (getD-digits n x k (le-of-suc-le-suc h))
 
   pub window : (p i : ℕ) (l : List ℕ) → Below b l → i + p ≤ length l → value b (take p (drop i l)) ≡ value b l / b ^ (length l - (i + p)) % b ^ p
   window p i l h f =

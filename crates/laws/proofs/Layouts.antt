@@ -1,10 +1,10 @@
 -- Fields in a row of bytes: what is joined is cut again by its widths, a number's bytes are read as that number. Assumes nothing.
 use Prim.Native.Nat.{ℕ, zero, suc, _+_, _^_, _<_, _≤_}
 use mathlib.Core.Path.{_≡_, refl, sym, ap, _∙_}
-use mathlib.Core.List.{List, [], _∷_, _++_, map, append-assoc}
+use mathlib.Core.List.{List, [], _∷_, _++_}
 use native.Mathlib.Omega.{arith}
-use lib.ListN.{length, getD, take, drop, length-append, length-drop, take-append-drop, drop-of-length-le}
-use lib.Seq.{drop-cons, take-add, take-take, drop-drop, take-append-seam, drop-append-seam, length-take-le}
+use lib.ListN.{length, getD, take, drop, length-drop, take-append-drop, drop-of-length-le}
+use lib.Seq.{drop-cons, take-add, take-take, drop-drop, length-take-le}
 use Rattle.laws.specs.Digits.{value}
 use Rattle.laws.specs.Bytes.{Bytes}
 use Rattle.laws.specs.Layout.{number, joined, part, field, cut, total}
@@ -14,19 +14,6 @@ use Rattle.laws.proofs.Bases.{below-take, below-drop, digits-read, valu
 pub joined-cut : (ws : List ℕ) (at : ℕ) (s : List ℕ) → joined (cut at ws s) ≡ part s at (total ws)
 joined-cut [] at s = refl
 joined-cut (w ∷ ws) at s = rw (take-add, drop-drop, joined-cut ws (at + w) s)
-
--- what is joined is cut into its parts
-pub cut-joined : (ps : List (List ℕ)) (at : ℕ) (s rest : List ℕ) → drop at s ≡ joined ps ++ rest → cut at (map length ps) s ≡ ps
-cut-joined [] at s rest e = refl
-cut-joined (p ∷ ps) at s rest e =
-    let f : drop at s ≡ p ++ (joined ps ++ rest) = e ∙ append-assoc p (joined ps) rest in
-    let g : drop (at + length p) s ≡ joined ps ++ rest = sym (drop-drop (length p) at s) ∙ rw f (drop-append-seam p (joined ps ++ rest)) in
-    let h : take (length p) (drop at s) ≡ p = rw f (take-append-seam p (joined ps ++ rest)) in
-    rw (h, cut-joined ps (at + length p) s rest g)
-
-pub joined-long : (ps : List (List ℕ)) → length (joined ps) ≡ total (map length ps)
-joined-long [] = refl
-joined-long (p ∷ ps) = rw (length-append, joined-long ps)
 
 pub part-long : (s : List ℕ) (at w : ℕ) → at + w ≤ length s → length (part s at w) ≡ w
 part-long s at w h = length-take-le w (drop at s) (rw length-drop (omega arith))
@@ -66,9 +53,6 @@ by-entries n s h = entries-from 0 n s (omega arith)
 pub read : (s : List ℕ) → Bytes s → (at w : ℕ) → at + w ≤ length s → number w (field s at w) ≡ part s at w
 read s b at w h =
     rw (part-long s at w h) at (digits-read 256 (omega arith) 0 (part s at w) (below-take 256 w (drop at s) (below-drop 256 at s b)))
-
-pub reads-as : (s : List ℕ) → Bytes s → (at w n : ℕ) → at + w ≤ length s → field s at w ≡ n → number w n ≡ part s at w
-reads-as s b at w n h e = ap (λ (k : ℕ). number w k) (sym e) ∙ read s b at w h
 
 -- and a number's bytes are read as that number
 pub written : (w n : ℕ) (p : List ℕ) → p ≡ number w n → n < 256 ^ w → value 256 p ≡ n

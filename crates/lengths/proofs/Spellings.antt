@@ -11,7 +11,7 @@ use lib.Seq.{length-take-le, take-append-seam}
 use borrow.Author.Tests.{lt-ltb, le-ltb, eq-eqb, ne-eqb}
 use Rattle.laws.specs.Bytes.{Bytes}
 use Rattle.lengths.specs.Length.{Spelt, lengthBytes, Spells, after81, after82, byFirst, readLength}
-use Rattle.lengths.proofs.Writing.{in-one, in-two, in-three, by-size, length-bytes, some-bytes}
+use Rattle.lengths.proofs.Writing.{in-one, in-two, in-three, by-size, some-bytes}
 
 -- ---- from what is written to what is read
 
@@ -30,9 +30,6 @@ spells n h = (h, refl)
 -- bytes that spell a number are read as that number, whatever follows
 pub reads : (p : List ℕ) (n : ℕ) (r : List ℕ) → Spells p n → readLength (p ++ r) ≡ some (record { number = n; width = length p })
 reads p n r k = rw (k .1) (reads-back n r (k .0))
-
-pub spelt-bytes : (p : List ℕ) (n : ℕ) → Spells p n → Bytes p
-spelt-bytes p n k = rw (k .1) (length-bytes n)
 
 pub spelt-some : (p : List ℕ) (n : ℕ) → Spells p n → 1 ≤ length p
 spelt-some p n k = rw (k .1) (some-bytes n)
@@ -129,7 +126,3 @@ apart p q x y n m j k e =
     let g : one ≡ other = cc in
     let w : length p ≡ length q = ap (λ (l : Spelt). l .width) g in
     (sym (take-append-seam p x) ∙ rw (e, w) (take-append-seam q y), ap (λ (l : Spelt). l .number) g)
-
--- the same bytes spell one number
-pub one-spelling : (p : List ℕ) (n m : ℕ) → Spells p n → Spells p m → n ≡ m
-one-spelling p n m j k = apart p p [] [] n m j k refl .1

@@ -40,6 +40,3 @@ length-bytes n = by-size n Bytes (λ h. (omega arith, tt)) (λ h k. (omega arith
 -- one byte, two or three
 pub some-bytes : (n : ℕ) → 1 ≤ length (lengthBytes n)
 some-bytes n = by-size n (λ (p : List ℕ). 1 ≤ length p) (λ h. omega arith) (λ h k. omega arith) (λ h. omega arith)
-
-pub few-bytes : (n : ℕ) → length (lengthBytes n) ≤ 3
-few-bytes n = by-size n (λ (p : List ℕ). length p ≤ 3) (λ h. omega arith) (λ h k. omega arith) (λ h. omega arith)

@@ -1,12 +1,11 @@
--- Sheets: how long they are, that a sheet tells its values, and that the values of a container that conforms have one. Assumes nothing.
-use Prim.Native.Nat.{ℕ, _+_, _-_, _/_, _%_, _≤_, _<_}
-use mathlib.Core.Path.{_≡_, refl, sym, ap, ap₂, _∙_}
+-- Sheets: how long they are, what they say of a map, and that the values of a container that conforms have one. Assumes nothing.
+use Prim.Native.Nat.{ℕ, _+_, _-_, _≤_, _<_}
+use mathlib.Core.Path.{_≡_, refl, ap, _∙_}
 use mathlib.Core.Option.{Option, none, some}
 use mathlib.Core.List.{List, [], _∷_, _++_}
 use native.Mathlib.Omega.{arith}
 use borrow.Author.Tests.{ne-eqb}
-use lib.ListN.{length, getD, take, drop, length-append}
-use lib.Seq.{take-append-seam, drop-append-seam}
+use lib.ListN.{length, getD, length-append}
 use Rattle.laws.specs.Bytes.{Bytes}
 use Rattle.laws.specs.Layout.{part}
 use Rattle.laws.proofs.Layouts.{part-long}
@@ -17,7 +16,7 @@ use Rattle.container.specs.Container.{Values, tagBytes, encode, Allowed, Confor
 use Rattle.container.proofs.Exact.{bytes-front, bytes-back}
 use Rattle.container.specs.Map.{shown}
 use Rattle.container.proofs.Lying.{shown-next}
-use Rattle.sheet.specs.Sheet.{count, section, sheetOf, Countable, Sheeted, IsSheet}
+use Rattle.sheet.specs.Sheet.{count, section, sheetOf, Sheeted, IsSheet}
 
 -- ---- how long: two bytes for each row, and the values
 
@@ -58,45 +57,6 @@ module _ (starts ends c : List ℕ) (n i : ℕ) (h : i < n) where
 pub none-left : (starts ends c : List ℕ) (n i : ℕ) → n ≤ i → sheetOf (shown starts ends c (n - i) i) ≡ []
 unfolding sheetOf shown
 none-left starts ends c n i h = let z : n - i ≡ 0 = omega arith in rw z
-
--- ---- a sheet tells its values
-
-same-count : (m n : ℕ) (x y : List ℕ) → m < 65536 → n < 65536 → count m ++ x ≡ count n ++ y → (m ≡ n) × (x ≡ y)
-same-count m n x y h k e =
-    let p : m / 256 % 256 ≡ n / 256 % 256 = cc in
-    let q : m % 256 ≡ n % 256 = cc in
-    let r : x ≡ y = cc in
-    (omega arith, r)
-
-one-section : (o p : Option (List ℕ)) (x y : List ℕ) → Countable o → Countable p → section o ++ x ≡ section p ++ y → (o ≡ p) × (x ≡ y)
-one-section none none x y h k e = (refl, same-count 0 0 x y (omega arith) (omega arith) e .1)
-one-section none (some w) x y h k e =
-    let g = same-count 0 (length w + 1) x (w ++ y) (omega arith) (omega arith) e in
-    absurd (omega (arith, g .0))
-one-section (some v) none x y h k e =
-    let g = same-count (length v + 1) 0 (v ++ x) y (omega arith) (omega arith) e in
-    absurd (omega (arith, g .0))
-one-section (some v) (some w) x y h k e =
-    let g = same-count (length v + 1) (length w + 1) (v ++ x) (w ++ y) (omega arith) (omega arith) e in
-    let l : length v ≡ length w = omega (arith, g .0) in
-    let r : v ≡ w = sym (take-append-seam v x) ∙ ap₂ (λ (n : ℕ) (s : List ℕ). take n s) l (g .1) ∙ take-append-seam w y in
-    let t : x ≡ y = sym (drop-append-seam v x) ∙ ap₂ (λ (n : ℕ) (s : List ℕ). drop n s) l (g .1) ∙ drop-append-seam w y in
-    (ap some r, t)
-
-pub one-sheet : (rs : Table) (vs ws : Values) → Sheeted rs vs → Sheeted rs ws → sheetOf vs ≡ sheetOf ws → vs ≡ ws
-unfolding sheetOf
-one-sheet [] [] [] h k e = refl
-one-sheet [] [] (p ∷ ws) h k e = absurd k
-one-sheet [] (o ∷ vs) ws h k e = absurd h
-one-sheet (r ∷ rs) [] ws h k e = absurd h
-one-sheet (r ∷ rs) (o ∷ vs) [] h k e = absurd k
-one-sheet (r ∷ rs) (o ∷ vs) (p ∷ ws) h k e =
-    let g = one-section o p (sheetOf vs) (sheetOf ws) (h .0) (k .0) e in
-    ap₂ (λ (q : Option (List ℕ)) (l : Values). q ∷ l) (g .0) (one-sheet rs vs ws (h .1) (k .1) (g .1))
-
--- these bytes are the sheet of one list of values at most
-pub one-reading : (rs : Table) (vs ws : Values) (s : List ℕ) → IsSheet rs vs s → IsSheet rs ws s → vs ≡ ws
-one-reading rs vs ws s h k = one-sheet rs vs ws (h .sections) (k .sections) (sym (h .written) ∙ k .written)
 
 -- ---- the values of a container that conforms
 

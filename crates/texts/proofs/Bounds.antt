@@ -1,20 +1,16 @@
--- How long the texts are, and that they are bytes. Assumes nothing.
---     decimal-length, decimal-most, decimal-some   a number below 10 ^ k has at most k digits, one of 64 bits at most 20, and each has one
---     fixed-length, hex-length, tag-length, tag-most
---     decimal-bytes, fixed-bytes, hex-bytes, tag-bytes
+-- How long the texts are: a number below 10 ^ k has at most k digits; and that hex digits and tags are bytes. Assumes nothing.
 use mathlib.Core.Path.{_≡_, refl, _∙_}
 use mathlib.Core.Bool.{cond}
-use mathlib.Core.Logic.{_⊎_, inl, inr}
-use mathlib.Core.List.{List, [], _∷_, _++_, map}
+use mathlib.Core.List.{[], _∷_, _++_}
 use Prim.Native.Nat.{ℕ, zero, suc, _+_, _/_, _%_, _^_, _≤_, _<_}
 use native.Mathlib.Nat.{pow-suc}
 use native.Mathlib.Omega.{arith}
 use borrow.Author.Tests.{lt-ltb}
 use lib.Dec.{ltb}
 use lib.ListN.{length, length-append, length-map}
-use Rattle.laws.specs.Bytes.{Below, Bytes}
+use Rattle.laws.specs.Bytes.{Bytes}
 use Rattle.laws.specs.Digits.{digits}
-use Rattle.laws.proofs.Bases.{below-append, length-digits, below-digits}
+use Rattle.laws.proofs.Bases.{below-append, length-digits}
 use Rattle.laws.proofs.Cases.{test}
 use Rattle.texts.specs.Text.{digit, fixed, decimalIn, decimal, hexDigit, hex2, hexTag}
 
@@ -32,19 +28,6 @@ unfolding decimal
 decimal-length zero n g h = absurd (omega arith)
 decimal-length (suc k) n g h = decimalIn-length k n n h
 
-pub decimal-most : (n : ℕ) → n < 2 ^ 64 → length (decimal n) ≤ 20
-decimal-most n h = decimal-length 20 n (omega arith) (omega arith)
-
-decimalIn-some : (f n : ℕ) → 1 ≤ length (decimalIn f n)
-decimalIn-some zero n = omega arith
-decimalIn-some (suc f) n =
-    test (ltb n 10) (λ b. 1 ≤ length (cond b (digit (n % 10) ∷ []) (decimalIn f (n / 10) ++ digit (n % 10) ∷ []))) (λ e. omega arith)
-    (λ e. rw length-append (omega arith))
-
-pub decimal-some : (n : ℕ) → 1 ≤ length (decimal n)
-unfolding decimal
-decimal-some n = decimalIn-some n n
-
 pub fixed-length : (w n : ℕ) → length (fixed w n) ≡ w
 unfolding fixed
 fixed-length w n = length-map (digits 10 w n) digit ∙ length-digits 10 (omega arith) w n
@@ -53,35 +36,11 @@ pub hex-length : (b : ℕ) → length (hex2 b) ≡ 2
 unfolding hex2
 hex-length b = refl
 
-pub tag-length : (t : ℕ) → (length (hexTag t) ≡ 2) ⊎ (length (hexTag t) ≡ 4)
-unfolding hexTag hex2
-tag-length t =
-    let long : List ℕ = hex2 (t / 256) ++ hex2 (t % 256) in
-    test (ltb t 256) (λ b. (length (cond b (hex2 t) long) ≡ 2) ⊎ (length (cond b (hex2 t) long) ≡ 4)) (λ e. inl refl) (λ e. inr refl)
-
 pub tag-most : (t : ℕ) → length (hexTag t) ≤ 4
 unfolding hexTag hex2
 tag-most t = test (ltb t 256) (λ b. length (cond b (hex2 t) (hex2 (t / 256) ++ hex2 (t % 256))) ≤ 4) (λ e. omega arith) (λ e. omega arith)
 
 -- ---- bytes
-
-map-bytes : (ds : List ℕ) → Below 10 ds → Bytes (map digit ds)
-map-bytes [] h = tt
-map-bytes (d ∷ ds) h = (omega (arith, h .0), map-bytes ds (h .1))
-
-pub fixed-bytes : (w n : ℕ) → Bytes (fixed w n)
-unfolding fixed
-fixed-bytes w n = map-bytes (digits 10 w n) (below-digits 10 (omega arith) w n)
-
-decimalIn-bytes : (f n : ℕ) → Bytes (decimalIn f n)
-decimalIn-bytes zero n = (omega arith, tt)
-decimalIn-bytes (suc f) n =
-    test (ltb n 10) (λ b. Bytes (cond b (digit (n % 10) ∷ []) (decimalIn f (n / 10) ++ digit (n % 10) ∷ []))) (λ e. (omega arith, tt))
-    (λ e. below-append 256 (decimalIn f (n / 10)) (digit (n % 10) ∷ []) (decimalIn-bytes f (n / 10)) (omega arith, tt))
-
-pub decimal-bytes : (n : ℕ) → Bytes (decimal n)
-unfolding decimal
-decimal-bytes n = decimalIn-bytes n n
 
 hexDigit-byte : (d : ℕ) → d < 16 → hexDigit d < 256
 hexDigit-byte d h = test (ltb d 10) (λ b. cond b (48 + d) (55 + d) < 256) (λ e. omega arith) (λ e. omega arith)

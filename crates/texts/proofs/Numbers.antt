@@ -100,14 +100,6 @@ module _ (mark : ℕ) (low : mark < 48) where
   unfolding decimal
   decimal-without n = decimalIn-without n n
 
-  map-without : (ds : List ℕ) → Without mark (map digit ds)
-  map-without [] = tt
-  map-without (d ∷ ds) = ((λ e. omega arith), map-without ds)
-
-  pub fixed-without : (w n : ℕ) → Without mark (fixed w n)
-  unfolding fixed
-  fixed-without w n = map-without (digits 10 w n)
-
   hexDigit-without : (d : ℕ) → hexDigit d ≡ mark → ⊥
   hexDigit-without d = test (ltb d 10) (λ b. cond b (48 + d) (55 + d) ≡ mark → ⊥) (λ e f. omega arith) (λ e f. omega arith)
 
