@@ -9,7 +9,7 @@ use lib.ListN.{length}
 use borrow.Author.Tests.{eqb-true, eqb-false, not-true}
 use Rattle.laws.specs.Tests.{allBelow, each, same}
 use Rattle.laws.proofs.Cases.{and-true, at-each}
-use Rattle.texts.specs.Text.{ascii, number}
+use Rattle.texts.specs.Text.{ascii, numeral}
 use Rattle.texts.proofs.Reading.{Reads, and, given, so, behind, Without, ended-reads}
 use Rattle.texts.proofs.Numbers.{number-reads, line-reads}
 use Rattle.kinds.specs.Tables.{IsKind}
@@ -49,4 +49,4 @@ card-reads k l size size′ t u i j g h =
     (and
     (and (behind (ascii "CARD 4\nkind ") (kind-reads k l i j)) (behind (ascii "bytes ") (number-reads 10 (omega arith) size size′)))
     (behind (ascii "today ") (line-reads 8 t u g h)))
-    (given (ascii "verdict " ++ number 0 32 ++ number 0 10)))
+    (given (ascii "verdict " ++ numeral 0 32 ++ numeral 0 10)))

@@ -3,7 +3,7 @@
 use Prim.Native.Nat.{ℕ}
 use mathlib.Core.List.{List, [], _∷_, _++_}
 use lib.ListN.{getD}
-use Rattle.texts.specs.Text.{ascii, number, digitsLine}
+use Rattle.texts.specs.Text.{ascii, numeral, digitsLine}
 
 -- "1 CCC, 2 CHUID, 3 DISCOVERY, 4 PRINTED, 5 SECURITY, 6 FINGERS, 7 FACE"
 abbrev pub names : List (List ℕ)
@@ -16,5 +16,5 @@ kindName kind = getD ([] ∷ names) kind []
 -- four lines
 unfoldable pub cardPart : ℕ → ℕ → ℕ → ℕ → ℕ → List ℕ
 cardPart kind size today verdict place =
-    ascii "CARD 4\nkind " ++ (kindName kind ++ 10 ∷ []) ++ (ascii "bytes " ++ number size 10) ++ (ascii "today " ++ digitsLine 8 today)
-    ++ (ascii "verdict " ++ number verdict 32 ++ number place 10)
+    ascii "CARD 4\nkind " ++ (kindName kind ++ 10 ∷ []) ++ (ascii "bytes " ++ numeral size 10) ++ (ascii "today " ++ digitsLine 8 today)
+    ++ (ascii "verdict " ++ numeral verdict 32 ++ numeral place 10)

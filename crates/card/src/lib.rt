@@ -2,7 +2,7 @@
 // room. Where the room ends, so does the text: no writer asks anything of its caller.
 ghost use mathlib.Core.List.{[], _∷_, _++_};
 ghost use Rattle.laws.specs.Room.{Put};
-ghost use Rattle.texts.specs.Text.{ascii, number};
+ghost use Rattle.texts.specs.Text.{ascii, numeral};
 ghost use Rattle.card.specs.Card.{kindName, cardPart};
 
 // "1 CCC, 2 CHUID, 3 DISCOVERY, 4 PRINTED, 5 SECURITY, 6 FINGERS, 7 FACE", and the line's end.
@@ -23,7 +23,7 @@ fn put_kind(kind: u64, out: &mut [u8]) -> usize
 
 // "verdict number and place"
 fn put_verdict(verdict: u64, place: usize, out: &mut [u8]) -> usize
-    ensures { λ r. ⌜ Put (ascii "verdict " ++ number verdict 32 ++ number place 10) (now (out .entry)) (now (out .exit)) r ⌝ }
+    ensures { λ r. ⌜ Put (ascii "verdict " ++ numeral verdict 32 ++ numeral place 10) (now (out .entry)) (now (out .exit)) r ⌝ }
 {
     let mut at = room::put_all(b"verdict ", out);
     at += texts::put_number(verdict, b' ', &mut out[at..]);

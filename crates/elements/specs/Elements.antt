@@ -3,7 +3,7 @@ use Prim.Native.Nat.{ℕ, suc}
 use mathlib.Core.Option.{Option, none, some}
 use mathlib.Core.List.{List, [], _∷_, _++_}
 use lib.ListN.{length}
-use Rattle.texts.specs.Text.{ascii, number, hexTag}
+use Rattle.texts.specs.Text.{ascii, numeral, hexTag}
 use Rattle.kinds.specs.Tables.{Table}
 use Rattle.container.specs.Container.{Values}
 
@@ -15,7 +15,7 @@ shape (some v ∷ vs) = some (length v) ∷ shape vs
 
 -- a line for each element that is there
 abbrev pub elementLine : ℕ → ℕ → List ℕ
-elementLine tag n = (hexTag tag ++ 32 ∷ []) ++ number n 10
+elementLine tag n = (hexTag tag ++ 32 ∷ []) ++ numeral n 10
 
 unfoldable pub elementLines : Table → List (Option ℕ) → List ℕ
 elementLines [] ns = []
@@ -29,4 +29,4 @@ elementCount (none ∷ ns) = elementCount ns
 elementCount (some n ∷ ns) = suc (elementCount ns)
 
 abbrev pub elementsPart : Table → List (Option ℕ) → List ℕ
-elementsPart rows ns = (ascii "ELEMENTS " ++ number (elementCount ns) 10) ++ elementLines rows ns
+elementsPart rows ns = (ascii "ELEMENTS " ++ numeral (elementCount ns) 10) ++ elementLines rows ns

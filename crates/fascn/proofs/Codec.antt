@@ -10,7 +10,7 @@ use lib.ListN.{length}
 use borrow.Author.Tests.{eqb-true, eq-eqb}
 use Rattle.laws.specs.Bytes.{Bytes}
 use Rattle.laws.proofs.Cases.{which, and-true, and-is, not-so}
-use Rattle.fascn.specs.Fascn.{encoded, Conforms, IsFascn}
+use Rattle.fascn.specs.Fascn.{encoded, IsFascnOf, IsFascn}
 use Rattle.fascn.specs.Calls.{success, refused}
 use Rattle.fascn.specs.Reading.{valuesOf, framed, fields, decoded, isFascn}
 use Rattle.fascn.specs.declared.Numbers.{Numbers}
@@ -23,7 +23,7 @@ abbrev passes : List ℕ → Bool
 passes s = eqb (length s) 25 && framed (valuesOf s)
 
 -- bytes that pass are those of the numbers that are read
-passed : (s : List ℕ) → Bytes s → passes s ≡ true → Conforms s (fields (valuesOf s))
+passed : (s : List ℕ) → Bytes s → passes s ≡ true → IsFascnOf s (fields (valuesOf s))
 passed s b e =
     let c = and-true (eqb (length s) 25) (framed (valuesOf s)) e in
     let l : length s ≡ 25 = eqb-true (length s) 25 (c .0) in
@@ -36,11 +36,11 @@ passed s b e =
 passing : (n : Numbers) → passes (encoded n) ≡ true
 passing n = and-is _ _ (eq-eqb _ _ (length-encoded n)) (rw (values-encoded n) (checked-framed n))
 
-pub complete : (s : List ℕ) (n : Numbers) → Conforms s n → decoded s ≡ success n
+pub complete : (s : List ℕ) (n : Numbers) → IsFascnOf s n → decoded s ≡ success n
 unfolding decoded
 complete s n c = rw (c .written, passing n, values-encoded n, fields-checked n (c .in-range))
 
-pub sound : (s : List ℕ) → Bytes s → (n : Numbers) → decoded s ≡ success n → Conforms s n
+pub sound : (s : List ℕ) → Bytes s → (n : Numbers) → decoded s ≡ success n → IsFascnOf s n
 unfolding decoded
 sound s b n e =
     elim (which (passes s)) [
@@ -52,7 +52,7 @@ sound s b n e =
     ]
 
 -- decoding succeeds with n exactly when n is in range and its encoding is these bytes
-pub decoded-exact : (s : List ℕ) → Bytes s → (n : Numbers) → (decoded s ≡ success n) ↔ Conforms s n
+pub decoded-exact : (s : List ℕ) → Bytes s → (n : Numbers) → (decoded s ≡ success n) ↔ IsFascnOf s n
 decoded-exact s b n = (sound s b n, complete s n)
 
 -- every other answer is the refusal, and it is given exactly where no numbers have these bytes

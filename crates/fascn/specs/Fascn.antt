@@ -58,10 +58,10 @@ inRange n =
     && ltb (n .category) (10 ^ 1) && ltb (n .organisation) (10 ^ 4) && ltb (n .association) (10 ^ 1)
 
 -- the bytes are those of the numbers n
-pub record Conforms (bytes : List ℕ) (n : Numbers) : Type 0 where
+pub record IsFascnOf (bytes : List ℕ) (n : Numbers) : Type 0 where
   pub in-range : InRange n
   pub written : bytes ≡ encoded n
 
 -- the bytes are a FASC-N
 abbrev pub IsFascn : List ℕ → Type 0
-IsFascn bytes = (n : Numbers) × Conforms bytes n
+IsFascn bytes = (n : Numbers) × IsFascnOf bytes n

@@ -11,7 +11,7 @@ use borrow.Author.Tests.{le-ltb}
 use Rattle.laws.specs.Bytes.{Bytes}
 use Rattle.laws.proofs.Cases.{which}
 use Rattle.laws.proofs.Rooms.{filled-front}
-use Rattle.fascn.specs.Fascn.{Conforms as IsFascnOf, encoded, inRange}
+use Rattle.fascn.specs.Fascn.{IsFascnOf, encoded, inRange}
 use Rattle.fascn.specs.Calls.{success, status, output, Encoded}
 use Rattle.fascn.specs.declared.Numbers.{Numbers}
 use Rattle.fascn.specs.declared.Decoded.{Decoded}

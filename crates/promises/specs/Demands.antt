@@ -15,7 +15,7 @@ use Rattle.laws.specs.Bytes.{Bytes}
 use Rattle.laws.specs.Room.{zeros, filled}
 use Rattle.texts.specs.Text.{digit}
 use Rattle.dates.specs.Date.{IsDate, IsTextDate}
-use Rattle.fascn.specs.Fascn.{Conforms as IsFascnOf, IsFascn}
+use Rattle.fascn.specs.Fascn.{IsFascnOf, IsFascn}
 use Rattle.fascn.specs.Calls.{noNumbers}
 use Rattle.fascn.specs.declared.Numbers.{Numbers}
 use Rattle.fascn.specs.declared.Decoded.{Decoded}

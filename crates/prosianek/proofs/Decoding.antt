@@ -10,7 +10,7 @@ use mathlib.Core.List.{List}
 use native.Mathlib.Omega.{arith}
 use Rattle.laws.specs.Bytes.{Bytes}
 use Rattle.laws.proofs.Cases.{which}
-use Rattle.fascn.specs.Fascn.{Conforms, IsFascn}
+use Rattle.fascn.specs.Fascn.{IsFascnOf, IsFascn}
 use Rattle.fascn.specs.Calls.{refused}
 use Rattle.fascn.specs.Reading.{decoded, isFascn}
 use Rattle.fascn.specs.declared.Decoded.{Decoded}
@@ -42,7 +42,7 @@ decoded-once s d₁ d₂ =
     ]
 
 -- the answer 0, and every other
-pub decoded-0 : (s : List ℕ) {r : Decoded} → Decodes s r → r .number ≡ 0 → Conforms s (r .numbers)
+pub decoded-0 : (s : List ℕ) {r : Decoded} → Decodes s r → r .number ≡ 0 → IsFascnOf s (r .numbers)
 decoded-0 s {r} d z =
     elim (d .answer) [
       | inl (n, f, e) ↦ rw (ap (λ (x : Decoded). x .numbers) e) f

@@ -5,7 +5,7 @@ use mathlib.Core.Logic.{_⊎_}
 use mathlib.Core.Path.{_≡_}
 use mathlib.Core.List.{List}
 use lib.ListN.{length}
-use Rattle.fascn.specs.Fascn.{Conforms, IsFascn}
+use Rattle.fascn.specs.Fascn.{IsFascnOf, IsFascn}
 use Rattle.fascn.specs.Calls.{success, refused, Encoded}
 use Rattle.fascn.specs.declared.Numbers.{Numbers}
 use Rattle.fascn.specs.declared.Decoded.{Decoded}
@@ -41,7 +41,7 @@ pub record Reports (kind today : ℕ) (c before after : List ℕ) (r : Done) : T
 
 -- "Decoding alone: any string but 25 conforming bytes is 17, with all nine numbers 0": the nine numbers whose FASC-N these bytes are; or there are none
 pub record Decodes (s : List ℕ) (r : Decoded) : Type 0 where
-  pub answer : ((n : Numbers) × Conforms s n × (r ≡ success n)) ⊎ ((IsFascn s → ⊥) × (r ≡ refused))
+  pub answer : ((n : Numbers) × IsFascnOf s n × (r ≡ success n)) ⊎ ((IsFascn s → ⊥) × (r ≡ refused))
 
 -- "Encoding alone: 7, then 3 for a room under 25."
 pub record Encodes (n : Numbers) (before after : List ℕ) (number : ℕ) : Type 0 where

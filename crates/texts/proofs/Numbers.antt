@@ -15,7 +15,7 @@ use lib.ListN.{length}
 use Rattle.laws.specs.Digits.{digits, readOn}
 use Rattle.laws.proofs.Bases.{value-digits}
 use Rattle.laws.proofs.Cases.{test}
-use Rattle.texts.specs.Text.{digit, fixed, decimalIn, decimal, number, digitsLine, hexDigit, hex2, hexTag}
+use Rattle.texts.specs.Text.{digit, fixed, decimalIn, decimal, numeral, digitsLine, hexDigit, hex2, hexTag}
 use Rattle.texts.proofs.Bounds.{fixed-length, hex-length}
 use Rattle.texts.proofs.Reading.{Reads, and, given, so, Without, without-append, ended-reads, long-reads}
 
@@ -115,7 +115,7 @@ module _ (mark : ℕ) (low : mark < 48) where
 
 -- ---- read along
 
-pub number-reads : (mark : ℕ) → mark < 48 → (m n : ℕ) → Reads (number m mark) (number n mark) (m ≡ n)
+pub number-reads : (mark : ℕ) → mark < 48 → (m n : ℕ) → Reads (numeral m mark) (numeral n mark) (m ≡ n)
 number-reads mark low m n = so (decimal-inj m n) (ended-reads mark (decimal m) (decimal n) (decimal-without mark low m) (decimal-without mark low n))
 
 pub fixed-reads : (w m n : ℕ) → m < 10 ^ w → n < 10 ^ w → Reads (fixed w m) (fixed w n) (m ≡ n)

@@ -33,8 +33,8 @@ unfoldable pub decimal : ℕ → List ℕ
 decimal n = decimalIn n n
 
 -- a number without leading zeros, and the mark that ends it; a number of w digits and a line end
-abbrev pub number : ℕ → ℕ → List ℕ
-number n mark = decimal n ++ mark ∷ []
+abbrev pub numeral : ℕ → ℕ → List ℕ
+numeral n mark = decimal n ++ mark ∷ []
 
 abbrev pub digitsLine : ℕ → ℕ → List ℕ
 digitsLine w n = fixed w n ++ 10 ∷ []

@@ -6,7 +6,7 @@ ghost use mathlib.Core.List.{_++_};
 ghost use Prim.Native.Nat.{_<_};
 ghost use lib.ListN.{set};
 ghost use Rattle.laws.specs.Room.{Put};
-ghost use Rattle.texts.specs.Text.{fixed, decimal, number, digitsLine, hexDigit, hex2, hexTag};
+ghost use Rattle.texts.specs.Text.{fixed, decimal, numeral, digitsLine, hexDigit, hex2, hexTag};
 use room::put_all;
 use room::put_byte;
 
@@ -59,7 +59,7 @@ pub fn put_decimal(n: u64, out: &mut [u8]) -> usize
 
 // A number without leading zeros, and the mark that ends it.
 pub fn put_number(n: u64, mark: u8, out: &mut [u8]) -> usize
-    ensures { λ r. ⌜ Put (number n mark) (now (out .entry)) (now (out .exit)) r ⌝ }
+    ensures { λ r. ⌜ Put (numeral n mark) (now (out .entry)) (now (out .exit)) r ⌝ }
 {
     let at = put_decimal(n, out);
     at + put_byte(mark, &mut out[at..])
@@ -67,7 +67,7 @@ pub fn put_number(n: u64, mark: u8, out: &mut [u8]) -> usize
 
 // A line: a name, and a number without leading zeros.
 pub fn put_count(name: &[u8], n: u64, out: &mut [u8]) -> usize
-    ensures { λ r. ⌜ Put (now (name .entry) ++ number n 10) (now (out .entry)) (now (out .exit)) r ⌝ }
+    ensures { λ r. ⌜ Put (now (name .entry) ++ numeral n 10) (now (out .entry)) (now (out .exit)) r ⌝ }
 {
     let at = put_all(name, out);
     at + put_number(n, b'\n', &mut out[at..])
