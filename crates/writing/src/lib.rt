@@ -8,6 +8,8 @@ ghost use Rattle.kinds.specs.Tables.{table, rowOf, permits};
 ghost use Rattle.lengths.specs.Length.{lengthBytes};
 ghost use Rattle.verdicts.specs.Output.{Leaves};
 ghost use Rattle.container.specs.Container.{tagBytes, encode};
+ghost use Rattle.verdicts.specs.Verdicts.{found};
+ghost use Rattle.writing.specs.declared.Plan.the-variants.{Refuse};
 ghost use Rattle.container.specs.Map.{Inside};
 ghost use Rattle.writing.specs.Writing.{judged, writeOutput};
 ghost use Rattle.writing.specs.Passes.{furthest, lying, Apart, judgedBy, planOf, Small, elementBytes, boxed, fitted, Planned};
@@ -33,6 +35,13 @@ enum Plan {
     Refuse(Finding),
     // Its container is written: the elements take so many bytes.
     Takes(usize),
+}
+
+// A refusal, with its place.
+fn refuse(f: Fault, place: usize) -> Plan
+    ensures { λ r. ⌜ r ≡ Refuse (found f place) ⌝ }
+{
+    Plan::Refuse(verdicts::found(f, place))
 }
 
 // A byte as an index: its value, and that it is one of 256.
@@ -131,12 +140,12 @@ fn judge_rows(kind: u64, today: u64, s: &[u8], x: Places) -> Plan
         row += 1;
         if to == 0 {
             if !optional {
-                return Plan::Refuse(verdicts::found(Fault::MissingRow, at));
+                return refuse(Fault::MissingRow, at);
             }
             at += 2;
         } else {
             if let Ruling::Breaks(f) = judge_value(kind, today, tag, &s[from..to]) {
-                return Plan::Refuse(verdicts::found(f, at));
+                return refuse(f, at);
             }
             let n = to - from;
             size += element_length(tag, n);
@@ -211,10 +220,10 @@ fn fitted(n: usize, room: usize) -> Plan
 {
     let size = 1 + lengths::length_width(n) + n;
     if 32768 < size {
-        return Plan::Refuse(verdicts::found(Fault::LargeContainer, 0));
+        return refuse(Fault::LargeContainer, 0);
     }
     if room < size {
-        return Plan::Refuse(verdicts::found(Fault::SmallRoom, 0));
+        return refuse(Fault::SmallRoom, 0);
     }
     Plan::Takes(n)
 }
@@ -226,13 +235,13 @@ fn planned(kind: u64, today: u64, sheet: &[u8], x: Places, room: usize) -> Plan
     ensures { λ r. ⌜ Planned kind today (now (sheet .entry)) x room r ⌝ }
 {
     if !kinds::is_kind(kind) {
-        return Plan::Refuse(verdicts::found(Fault::UnknownKind, 0));
+        return refuse(Fault::UnknownKind, 0);
     }
     if !dates::is_date(today) {
-        return Plan::Refuse(verdicts::found(Fault::NoDate, 0));
+        return refuse(Fault::NoDate, 0);
     }
     if !x.whole {
-        return Plan::Refuse(verdicts::found(Fault::TornSheet, 0));
+        return refuse(Fault::TornSheet, 0);
     }
     match judge_rows(kind, today, sheet, x) {
         Plan::Refuse(f) => Plan::Refuse(f),

@@ -27,14 +27,14 @@ returns : tie.Need-returns
 returns c =
     let t = c .before in
     let a = t .before .before .before .args in
-    rw (c .found .ensures) (bad-kind (a .kind) (a .today) (a .sheet .now) (a .room) (sym (t .before .is-kind .ensures) ∙ not-true _ (t .if1 .taken)))
+    rw (c .refuse .ensures) (bad-kind (a .kind) (a .today) (a .sheet .now) (a .room) (sym (t .before .is-kind .ensures) ∙ not-true _ (t .if1 .taken)))
 
 returns-2 : tie.Need-returns-2
 returns-2 c =
     let t = c .before in
     let e = t .before .before in
     let a = e .before .before .before .args in
-    rw (c .found2 .ensures) (bad-date (a .kind) (a .today) (a .sheet .now) (a .room) (a-kind e) (sym (t .before .is-date .ensures) ∙ not-true _ (t .if2 .taken)))
+    rw (c .refuse2 .ensures) (bad-date (a .kind) (a .today) (a .sheet .now) (a .room) (a-kind e) (sym (t .before .is-date .ensures) ∙ not-true _ (t .if2 .taken)))
 
 returns-3 : tie.Need-returns-3
 returns-3 c =
@@ -42,7 +42,7 @@ returns-3 c =
     let f = t .before .before in
     let e = f .before .before in
     let a = e .before .before .before .args in
-    rw (c .found3 .ensures) (torn-sheet (a .kind) (a .today) (a .sheet .now) (a .room) (a-kind e) (dated f) (is-torn (e .before .before .before .pre) (not-true _ (t .if3 .taken))))
+    rw (c .refuse3 .ensures) (torn-sheet (a .kind) (a .today) (a .sheet .now) (a .room) (a-kind e) (dated f) (is-torn (e .before .before .before .pre) (not-true _ (t .if3 .taken))))
 
 returns-4 : tie.Need-returns-4
 returns-4 c =
