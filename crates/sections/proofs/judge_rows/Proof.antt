@@ -1,4 +1,4 @@
--- `writing::judge_rows` meets its contract. The loop's invariant: what the rows come to from here, after what was added up, is what all come to. Assumes nothing.
+-- `sections::judge_rows` meets its contract. The loop's invariant: what the rows come to from here, after what was added up, is what all come to. Assumes nothing.
 use Prim.Native.Nat.{_+_, _*_, _-_, _≤_}
 use mathlib.Core.Path.{_≡_, refl, sym, _∙_}
 use native.Mathlib.Omega.{arith}
@@ -7,10 +7,10 @@ use borrow.Author.Needs.{needs}
 use borrow.Author.Tests.{not-true, not-false}
 use Rattle.laws.proofs.Layouts.{part-long}
 use Rattle.container.specs.Map.{Inside}
-use Rattle.writing.specs.Passes.{furthest}
-use Rattle.writing.proofs.Rows.{Next, next, no-row, past-rows, bodyFrom, body-all, body-end, body-missing, body-absent, body-broken, body-kept}
-use Rattle.writing.proofs.judge_rows.Statement.{statement}
-use Rattle.writing.proofs.judge_rows.Tie as tie
+use Rattle.sections.specs.Passes.{furthest}
+use Rattle.sections.proofs.Rows.{Next, next, no-row, past-rows, bodyFrom, body-all, body-end, body-missing, body-absent, body-broken, body-kept}
+use Rattle.sections.proofs.judge_rows.Statement.{statement}
+use Rattle.sections.proofs.judge_rows.Tie as tie
 
 abbrev Inv-loop : tie.InvT-loop
 Inv-loop kind today s froms tos at₀ size₀ row₀ at size row =
