@@ -1,6 +1,3 @@
-pub mod Judging
-pub mod Opening
-pub mod Rows
 pub mod Ways
 pub mod Sheets
 pub mod Promise

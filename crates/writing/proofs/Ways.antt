@@ -1,11 +1,10 @@
--- The ways out of `write`, by the tests that the code makes. Assumes nothing.
-use Prim.Native.Nat.{ℕ}
-use mathlib.Core.Path.{_≡_, refl, ap, _∙_}
-use mathlib.Core.Bool.{true, false}
-use mathlib.Core.Option.{none, some}
+-- What `write` answers, by what is planned. Assumes nothing.
+use Prim.Native.Nat.{ℕ, _≤_}
+use mathlib.Core.Path.{_≡_, refl, _∙_}
+use mathlib.Core.Logic.{inl, inr}
+use mathlib.Core.Option.{Option, none, some}
 use mathlib.Core.List.{List}
 use native.Mathlib.Omega.{arith}
-use mathlib.Core.Logic.{inl, inr}
 use lib.Dec.{ltb}
 use lib.ListN.{length, length-append}
 use borrow.Author.Tests.{le-leb, lt-leb, ltb-true, ltb-false}
@@ -14,86 +13,63 @@ use Rattle.dates.specs.Date.{isDate}
 use Rattle.kinds.specs.Tables.{table, isKind}
 use Rattle.lengths.specs.Length.{lengthBytes}
 use Rattle.verdicts.specs.Verdicts.{found}
-use Rattle.verdicts.specs.Output.{refusal}
-use Rattle.verdicts.specs.declared.Fault.the-variants.{UnknownKind, NoDate, TornSheet}
-use Rattle.verdicts.specs.declared.Finding.{Finding}
+use Rattle.verdicts.specs.Output.{Output, refusal, text}
+use Rattle.verdicts.specs.declared.Fault.the-variants.{TornSheet}
 use Rattle.verdicts.specs.declared.Outcome.{Outcome}
 use Rattle.verdicts.specs.declared.Outcome.the-variants.{Fine, Broken}
 use Rattle.container.specs.Container.{Values, encode, container, largest}
-use Rattle.writing.specs.Writing.{opened, judged, sizedOut, writeOutput}
-use Rattle.writing.specs.Passes.{lying, Apart, planOf, boxed, boxSize, fitted, Planned}
-use Rattle.writing.specs.declared.Places.{Places}
-use Rattle.writing.specs.declared.Plan.the-variants.{Refuse, Takes}
-
--- ---- the first pass's answer, and the second's, taken back
-
-module _ {kind : ℕ} {s : List ℕ} {x : Places} (a : Apart kind s x) where
-  pub is-torn : x .whole ≡ false → opened (table kind) s ≡ none
-  is-torn e = a .opens ∙ rw e
-
-  pub is-whole : x .whole ≡ true → opened (table kind) s ≡ some (lying kind x s)
-  is-whole e = a .opens ∙ rw e
-
-is-refused : (o : Outcome) (n : ℕ) {f : Finding} → Refuse f ≡ planOf o n → o ≡ Broken f
-is-refused Fine n e = let z : _≡_ {A = ℕ} 0 1 = cc in absurd (omega arith)
-is-refused (Broken g) n e = cc
-
-is-fine : (o : Outcome) (n : ℕ) {m : ℕ} → Takes m ≡ planOf o n → (o ≡ Fine) × (m ≡ n)
-is-fine Fine n e = (refl, cc)
-is-fine (Broken g) n e = let z : _≡_ {A = ℕ} 0 1 = cc in absurd (omega arith)
-
--- ---- 1, 2
+use Rattle.sections.specs.Opening.{opened, judged}
+use Rattle.sections.specs.Passes.{planOf, openedPlan, planFor}
+use Rattle.sections.specs.declared.Plan.{Plan}
+use Rattle.sections.specs.declared.Plan.the-variants.{Refuse, Takes}
+use Rattle.writing.specs.Writing.{sizedOut, judgedOut, openedOut, writeOutput}
+use Rattle.writing.specs.Passes.{boxed, boxSize, fitted}
 
 module _ (kind today : ℕ) (s : List ℕ) (room : ℕ) where
-  pub bad-kind : isKind kind ≡ false → writeOutput kind today s room ≡ refusal (found UnknownKind 0)
-  unfolding writeOutput
-  bad-kind k = rw k
+  -- a plan for a sheet that opens to some values, or to none
+  abbrev outOf : Plan → Option Values → Output
+  outOf (Refuse f) o = refusal f
+  outOf (Takes n) none = refusal (found TornSheet 0)
+  outOf (Takes n) (some vs) = sizedOut (boxed kind n vs) room
 
-  module _ (k : isKind kind ≡ true) where
-    pub bad-date : isDate today ≡ false → writeOutput kind today s room ≡ refusal (found NoDate 0)
-    unfolding writeOutput
-    bad-date d = rw (k, d)
+  by-plan : writeOutput kind today s room ≡ outOf (planFor kind today s) (opened (table kind) s)
+  unfolding writeOutput planFor
+  by-plan =
+      elim (which (isKind kind)) [
+        | inl k ↦
+            elim (which (isDate today)) [
+              | inl d ↦ rw (k, d) (go (opened (table kind) s))
+              | inr d ↦ rw (k, d)
+            ]
+        | inr k ↦ rw k
+      ]
+    where
+      judging : (vs : Values) (j : Outcome) → judgedOut j (container kind vs) room ≡ outOf (planOf j (length (encode (table kind) vs))) (some vs)
+      judging vs Fine = refl
+      judging vs (Broken f) = refl
 
-    -- ---- 5
+      go : (o : Option Values) → openedOut kind today o room ≡ outOf (openedPlan kind today o) o
+      go none = refl
+      go (some vs) = judging vs (judged today (table kind) vs 0)
 
-    module _ (d : isDate today ≡ true) where
-      pub torn-sheet : opened (table kind) s ≡ none → writeOutput kind today s room ≡ refusal (found TornSheet 0)
-      unfolding writeOutput
-      torn-sheet o = rw (k, d, o)
+  module _ (vs : Values) where
+    -- what a plan says that the room was held against: 4, 3
+    abbrev pub Answer : Plan → Type 0
+    Answer (Refuse f) = writeOutput kind today s room ≡ refusal f
+    Answer (Takes n) = (writeOutput kind today s room ≡ text (boxed kind n vs)) × (length (boxed kind n vs) ≤ room)
 
-      -- ---- 15, 16, the value's rules
-
-      module _ (x : Places) (o : opened (table kind) s ≡ some (lying kind x s)) where
-        abbrev vs : Values
-        vs = lying kind x s
-
-        abbrev body : List ℕ
-        body = encode (table kind) vs
-
-        pub broken : {f : Finding} → Refuse f ≡ planOf (judged today (table kind) vs 0) (length body) → writeOutput kind today s room ≡ refusal f
-        unfolding writeOutput
-        broken b = rw (k, d, o, is-refused (judged today (table kind) vs 0) (length body) b)
-
-        -- ---- 4, 3
-
-        module _ {n : ℕ} (b : Takes n ≡ planOf (judged today (table kind) vs 0) (length body)) where
-          takes : (judged today (table kind) vs 0 ≡ Fine) × (n ≡ length body)
-          takes = is-fine (judged today (table kind) vs 0) (length body) b
-
-          long : length (boxed kind n vs) ≡ boxSize n
-          long = omega (arith, length-append (lengthBytes n) body, takes .1)
-
-          sized : writeOutput kind today s room ≡ sizedOut (boxed kind n vs) room
-          unfolding writeOutput
-          sized = let c : container kind vs ≡ boxed kind n vs = rw (takes .1) in rw (k, d, o, takes .0) (ap (λ (c : List ℕ). sizedOut c room) c)
-
-          pub fits : Planned kind today s x room (fitted n room)
-          fits =
-              elim (which (ltb largest (boxSize n))) [
-                | inl l ↦ rw l (sized ∙ rw (long, lt-leb _ _ (ltb-true _ _ l)))
-                | inr l ↦
-                    elim (which (ltb room (boxSize n))) [
-                      | inl r ↦ rw (l, r) (sized ∙ rw (long, le-leb _ _ (ltb-false _ _ l), r))
-                      | inr r ↦ rw (l, r) (sized ∙ rw (long, le-leb _ _ (ltb-false _ _ l), r), rw long (ltb-false _ _ r))
-                    ]
+    fits : (n : ℕ) → writeOutput kind today s room ≡ sizedOut (boxed kind n vs) room → n ≡ length (encode (table kind) vs) → Answer (fitted (Takes n) room)
+    fits n e l =
+        let long : length (boxed kind n vs) ≡ boxSize n = omega (arith, length-append (lengthBytes n) (encode (table kind) vs)) in
+        elim (which (ltb largest (boxSize n))) [
+          | inl g ↦ rw g (e ∙ rw (long, lt-leb _ _ (ltb-true _ _ g)))
+          | inr g ↦
+              elim (which (ltb room (boxSize n))) [
+                | inl r ↦ rw (g, r) (e ∙ rw (long, le-leb _ _ (ltb-false _ _ g), r))
+                | inr r ↦ rw (g, r) (e ∙ rw (long, le-leb _ _ (ltb-false _ _ g), r), rw long (ltb-false _ _ r))
               ]
+        ]
+
+    pub answered : (p : Plan) → p ≡ planFor kind today s → ((n : ℕ) → p ≡ Takes n → (opened (table kind) s ≡ some vs) × (n ≡ length (encode (table kind) vs))) → Answer (fitted p room)
+    answered (Refuse f) e h = by-plan ∙ rw (← e)
+    answered (Takes n) e h = let o = h n refl in fits n (by-plan ∙ rw (← e, o .0)) (o .1)

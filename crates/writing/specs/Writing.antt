@@ -1,51 +1,20 @@
 -- "Write: 1, 2, 5, then row by row 15, 16 and the value's rules, with the place of the row's count, then 4, 3."
-use Prim.Native.Nat.{ℕ, _+_, _-_, _*_}
+use Prim.Native.Nat.{ℕ}
 use mathlib.Core.Bool.{cond}
 use mathlib.Core.Option.{Option, none, some}
-use mathlib.Core.List.{List, [], _∷_}
-use lib.Dec.{ltb, leb, eqb}
-use lib.ListN.{length, take, drop}
-use Rattle.kinds.specs.Tables.{Table, table, permitted, isKind}
+use mathlib.Core.List.{List}
+use lib.Dec.{leb}
+use lib.ListN.{length}
+use Rattle.kinds.specs.Tables.{table, isKind}
 use Rattle.dates.specs.Date.{isDate}
-use Rattle.rules.specs.Rules.{ruleOf}
 use Rattle.verdicts.specs.Verdicts.{found}
 use Rattle.verdicts.specs.Output.{Output, refusal}
-use Rattle.verdicts.specs.declared.Fault.the-variants.{UnknownKind, NoDate, LargeContainer, TornSheet, MissingRow, ElementLength}
-use Rattle.verdicts.specs.declared.Ruling.{Ruling}
-use Rattle.verdicts.specs.declared.Ruling.the-variants.{Kept, Breaks}
+use Rattle.verdicts.specs.declared.Fault.the-variants.{UnknownKind, NoDate, LargeContainer, TornSheet}
 use Rattle.verdicts.specs.declared.Outcome.{Outcome}
 use Rattle.verdicts.specs.declared.Outcome.the-variants.{Fine, Broken}
 use Rattle.container.specs.Container.{Values, container, largest}
 use Rattle.sheet.specs.Calls.{roomy}
-
--- ---- the sheet taken apart, row by row; none where it is cut short or has bytes left over. `proofs/` shows: exactly where it is the sheet of these values
-
-abbrev pub ahead : Option (List ℕ) → Option Values → Option Values
-ahead o none = none
-ahead o (some vs) = some (o ∷ vs)
-
-abbrev pub opened : Table → List ℕ → Option Values
-opened [] [] = some []
-opened [] (b ∷ s) = none
-opened (r ∷ rs) [] = none
-opened (r ∷ rs) (a ∷ []) = none
-opened (r ∷ rs) (a ∷ b ∷ s) =
-    cond (eqb (a * 256 + b) 0) (ahead none (opened rs s))
-    (cond (ltb (length s) (a * 256 + b - 1)) none
-    (ahead (some (take (a * 256 + b - 1) s)) (opened rs (drop (a * 256 + b - 1) s))))
-
--- ---- the values judged, row by row, with the place of the row's count
-
-abbrev pub keptOr : Ruling → ℕ → Outcome → Outcome
-keptOr Kept at later = later
-keptOr (Breaks f) at later = Broken (found f at)
-
-abbrev pub judged : ℕ → Table → Values → ℕ → Outcome
-judged today [] vs at = Fine
-judged today (r ∷ rs) [] at = Fine
-judged today (r ∷ rs) (none ∷ vs) at = cond (r .optional) (judged today rs vs (at + 2)) (Broken (found MissingRow at))
-judged today (r ∷ rs) (some v ∷ vs) at =
-    cond (permitted (r .lengths) (length v)) (keptOr (ruleOf (r .rule) today v) at (judged today rs vs (at + 2 + length v))) (Broken (found ElementLength at))
+use Rattle.sections.specs.Opening.{opened, judged}
 
 -- ---- the whole
 

@@ -8,7 +8,7 @@ use Rattle.laws.proofs.Rooms.{same-room, Left, begin, same, step, ended}
 use Rattle.kinds.specs.Tables.{table}
 use Rattle.container.specs.Container.{encode}
 use Rattle.container.specs.Map.{Inside, shown}
-use Rattle.writing.proofs.Rows.{Next, next, no-row, past-rows, small-tag, textFrom, text-all, text-end, text-absent, text-value}
+use Rattle.sections.proofs.Rows.{Next, next, no-row, past-rows, small-tag, textFrom, text-all, text-end, text-absent, text-value}
 use Rattle.writing.proofs.put_elements.Statement.{statement}
 use Rattle.writing.proofs.put_elements.Tie as tie
 

@@ -19,8 +19,8 @@ use Rattle.kinds.specs.Tables.{Table, table}
 use Rattle.container.specs.Container.{Values}
 use Rattle.container.specs.Map.{Inside, rowValue, shown}
 use Rattle.container.proofs.Noting.{none-noted, inside-first, inside-next}
-use Rattle.writing.specs.Writing.{ahead, opened}
-use Rattle.writing.specs.Passes.{furthest}
+use Rattle.sections.specs.Opening.{ahead, opened}
+use Rattle.sections.specs.Passes.{furthest}
 
 -- ---- the section of the first of some rows
 

@@ -28,10 +28,10 @@ use Rattle.container.specs.Container.{Values, tagBytes, has, encode}
 use Rattle.container.specs.Map.{rowValue, shown}
 use Rattle.container.proofs.Rows.{Distinct}
 use Rattle.container.proofs.Tags.{distinct, tags, Plain, Tags, short, double}
-use Rattle.writing.specs.Writing.{keptOr, judged}
-use Rattle.writing.specs.Passes.{judgedBy, planOf, elementBytes}
-use Rattle.writing.specs.declared.Plan.{Plan}
-use Rattle.writing.specs.declared.Plan.the-variants.{Refuse, Takes}
+use Rattle.sections.specs.Opening.{keptOr, judged}
+use Rattle.sections.specs.Passes.{judgedBy, planOf}
+use Rattle.sections.specs.declared.Plan.{Plan}
+use Rattle.sections.specs.declared.Plan.the-variants.{Refuse, Takes}
 
 -- ---- the row with a number, and the rows after it
 
@@ -171,7 +171,7 @@ module _ (kind : ℕ) (s from to : List ℕ) where
       vals-value : vals i ≡ some v ∷ vals (i + 1)
       vals-value = vals-next ∙ rw (ne-eqb _ _ e)
 
-      pub text-value : textFrom i ≡ elementBytes tag v ++ textFrom (i + 1)
+      pub text-value : textFrom i ≡ (tagBytes tag ++ lengthBytes (length v) ++ v) ++ textFrom (i + 1)
       unfolding textFrom
       text-value = rw (vals-value, k .split, k .tag-is) (simp append-assoc)
 

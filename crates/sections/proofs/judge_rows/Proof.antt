@@ -1,4 +1,4 @@
--- `writing::judge_rows` meets its contract. The loop's invariant: what the rows come to from here, after what was added up, is what all come to. Assumes nothing.
+-- `sections::judge_rows` meets its contract. The loop's invariant: what the rows come to from here, after what was added up, is what all come to. Assumes nothing.
 use Prim.Native.Nat.{_+_, _*_, _-_, _≤_}
 use mathlib.Core.Path.{_≡_, refl, sym, _∙_}
 use native.Mathlib.Omega.{arith}
@@ -7,10 +7,10 @@ use borrow.Author.Needs.{needs}
 use borrow.Author.Tests.{not-true, not-false}
 use Rattle.laws.proofs.Layouts.{part-long}
 use Rattle.container.specs.Map.{Inside}
-use Rattle.writing.specs.Passes.{furthest}
-use Rattle.writing.proofs.Rows.{Next, next, no-row, past-rows, bodyFrom, body-all, body-end, body-missing, body-absent, body-broken, body-kept}
-use Rattle.writing.proofs.judge_rows.Statement.{statement}
-use Rattle.writing.proofs.judge_rows.Tie as tie
+use Rattle.sections.specs.Passes.{furthest}
+use Rattle.sections.proofs.Rows.{Next, next, no-row, past-rows, bodyFrom, body-all, body-end, body-missing, body-absent, body-broken, body-kept}
+use Rattle.sections.proofs.judge_rows.Statement.{statement}
+use Rattle.sections.proofs.judge_rows.Tie as tie
 
 abbrev Inv-loop : tie.InvT-loop
 Inv-loop kind today s froms tos at₀ size₀ row₀ at size row =
@@ -49,9 +49,9 @@ returns-2 c =
     let k = t .before in
     let v = l k .loop in
     let a = l k .before .before .before .before .args in (
-      rw (c .found .ensures)
+      rw (c .refuse .ensures)
           (body-missing (a .kind) (a .s .now) (a .x .from) (a .x .to) (v .row) (here k) (t .if1 .taken) (a .today) (v .at) (v .size) (not-true _ (c .before .if2 .taken)) ∙ v .inv .3 ∙ body-all _ _ _ _ _),
-      tt,
+      rw (c .refuse .ensures) tt,
     )
 
 loop-again : tie.Need-loop-again Inv-loop μ-loop
@@ -76,9 +76,9 @@ returns-3 c =
     let k = e .before in
     let v = l k .loop in
     let a = l k .before .before .before .before .args in (
-      rw (c .found2 .ensures)
+      rw (c .refuse2 .ensures)
           (body-broken (a .kind) (a .s .now) (a .x .from) (a .x .to) (v .row) (here k) (e .if1 .left) (a .today) (v .at) (v .size) (sym (b .before .f .given .1) ∙ j .judge-value .ensures) ∙ v .inv .3 ∙ body-all _ _ _ _ _),
-      tt,
+      rw (c .refuse2 .ensures) tt,
     )
 
 loop-again-2 : tie.Need-loop-again-2 Inv-loop μ-loop

@@ -1,4 +1,4 @@
--- `writing::sections` meets its contract. The loop's invariant: what is noted, and after it what is left to open, is what the sheet opens to. Assumes nothing.
+-- `sections::sections` meets its contract. The loop's invariant: what is noted, and after it what is left to open, is what the sheet opens to. Assumes nothing.
 use Prim.Native.Nat.{_+_, _*_, _-_, _≤_, _<_}
 use mathlib.Core.Path.{_≡_, refl, _∙_}
 use native.Mathlib.Omega.{arith}
@@ -6,9 +6,9 @@ use lib.ListN.{length, length-set}
 use borrow.Author.Needs.{needs}
 use Rattle.kinds.specs.Tables.{table}
 use Rattle.kinds.proofs.Every.{few-rows, last-is-all}
-use Rattle.writing.proofs.Opening.{Noted, noted-first, no-count, absent, cut-short, value, all-noted}
-use Rattle.writing.proofs.sections.Statement.{statement}
-use Rattle.writing.proofs.sections.Tie as tie
+use Rattle.sections.proofs.Opening.{Noted, noted-first, no-count, absent, cut-short, value, all-noted}
+use Rattle.sections.proofs.sections.Statement.{statement}
+use Rattle.sections.proofs.sections.Tie as tie
 
 abbrev Inv-loop : tie.InvT-loop
 Inv-loop kind s rows from₀ to₀ at₀ row₀ from to at row =

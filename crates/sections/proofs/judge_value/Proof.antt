@@ -1,13 +1,13 @@
--- `writing::judge_value` meets its contract. Assumes nothing.
+-- `sections::judge_value` meets its contract. Assumes nothing.
 use mathlib.Core.Path.{_≡_, sym, _∙_}
 use borrow.Author.Needs.{needs}
 use borrow.Author.Tests.{not-true, not-false}
 use Rattle.kinds.specs.Tables.{rowOf}
 use Rattle.kinds.specs.declared.Row.the-variants.{At}
 use Rattle.rules.specs.Rules.{ruleOf}
-use Rattle.writing.proofs.Judging.{no-such, wrong-size, by-rule}
-use Rattle.writing.proofs.judge_value.Statement.{statement}
-use Rattle.writing.proofs.judge_value.Tie as tie
+use Rattle.sections.proofs.Judging.{no-such, wrong-size, by-rule}
+use Rattle.sections.proofs.judge_value.Statement.{statement}
+use Rattle.sections.proofs.judge_value.Tie as tie
 
 -- the row that was found
 row : (k : tie.After-known-told) → let a = k .before .before .before .before .before .args in let g = k .before .least .given .0 in

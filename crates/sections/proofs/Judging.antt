@@ -12,7 +12,7 @@ use Rattle.rules.specs.Rules.{ruleOf}
 use Rattle.verdicts.specs.declared.Fault.the-variants.{UnknownTag, ElementLength}
 use Rattle.verdicts.specs.declared.Ruling.{Ruling}
 use Rattle.verdicts.specs.declared.Ruling.the-variants.{Breaks}
-use Rattle.writing.specs.Passes.{judgedBy}
+use Rattle.sections.specs.Passes.{judgedBy}
 
 module _ {row : Row} (today : ℕ) (v : List ℕ) where
   pub no-such : Missing ≡ row → Breaks UnknownTag ≡ judgedBy row today v

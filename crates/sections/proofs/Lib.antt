@@ -1,0 +1,4 @@
+pub mod Judging
+pub mod Opening
+pub mod Rows
+pub mod Ways
