@@ -29,7 +29,8 @@ use Rattle.container.specs.Container.{Values, container, largest}
 use Rattle.container.specs.Reading.{Parsed, values, fault, Part, located, parsed, outcome, verdict}
 use Rattle.sheet.specs.Sheet.{sheetOf}
 use Rattle.sheet.specs.Calls.{roomy, readOf, readOutput}
-use Rattle.writing.specs.Writing.{opened, judged, sizedOut, judgedOut, openedOut, writeOutput}
+use Rattle.sections.specs.Opened.{opened, judged}
+use Rattle.writing.specs.Writing.{sizedOut, judgedOut, openedOut, writeOutput}
 use Rattle.views.specs.Views.{partOf, shown, viewOf, viewed}
 use Rattle.report.specs.Calls.{reportOutput}
 use Rattle.report.proofs.Answers.{report-cases}

@@ -19,7 +19,7 @@ use Rattle.kinds.specs.Tables.{Table, table}
 use Rattle.container.specs.Container.{Values}
 use Rattle.container.specs.Map.{Inside, rowValue, shown}
 use Rattle.container.proofs.Noting.{none-noted, inside-first, inside-next}
-use Rattle.sections.specs.Opening.{ahead, opened}
+use Rattle.sections.specs.Opened.{ahead, opened}
 use Rattle.sections.specs.Passes.{furthest}
 
 -- ---- the section of the first of some rows

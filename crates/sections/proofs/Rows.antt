@@ -28,7 +28,7 @@ use Rattle.container.specs.Container.{Values, tagBytes, has, encode}
 use Rattle.container.specs.Map.{rowValue, shown}
 use Rattle.container.proofs.Rows.{Distinct}
 use Rattle.container.proofs.Tags.{distinct, tags, Plain, Tags, short, double}
-use Rattle.sections.specs.Opening.{keptOr, judged}
+use Rattle.sections.specs.Opened.{keptOr, judged}
 use Rattle.sections.specs.Passes.{judgedBy, planOf}
 use Rattle.sections.specs.declared.Plan.{Plan}
 use Rattle.sections.specs.declared.Plan.the-variants.{Refuse, Takes}

@@ -16,7 +16,7 @@ use Rattle.verdicts.specs.declared.Finding.{Finding}
 use Rattle.verdicts.specs.declared.Outcome.{Outcome}
 use Rattle.verdicts.specs.declared.Outcome.the-variants.{Fine, Broken}
 use Rattle.container.specs.Container.{Values, encode}
-use Rattle.sections.specs.Opening.{opened, judged}
+use Rattle.sections.specs.Opened.{opened, judged}
 use Rattle.sections.specs.Passes.{lying, Apart, planOf, planFor}
 use Rattle.sections.specs.declared.Places.{Places}
 use Rattle.sections.specs.declared.Plan.the-variants.{Refuse, Takes}

@@ -17,7 +17,7 @@ use Rattle.verdicts.specs.declared.Outcome.{Outcome}
 use Rattle.verdicts.specs.declared.Outcome.the-variants.{Fine, Broken}
 use Rattle.container.specs.Container.{Values, encode}
 use Rattle.container.specs.Map.{Inside, shown}
-use Rattle.sections.specs.Opening.{opened, judged}
+use Rattle.sections.specs.Opened.{opened, judged}
 use Rattle.dates.specs.Date.{isDate}
 use Rattle.sections.specs.declared.Sheet.{Sheet}
 use Rattle.sections.specs.declared.Places.{Places}

@@ -9,7 +9,7 @@ ghost use Rattle.verdicts.specs.Verdicts.{found};
 ghost use Rattle.container.specs.Container.{tagBytes, encode};
 ghost use Rattle.container.specs.Map.{Inside};
 ghost use Rattle.sections.specs.declared.Plan.the-variants.{Refuse};
-ghost use Rattle.sections.specs.Opening.{judged};
+ghost use Rattle.sections.specs.Opened.{judged};
 ghost use Rattle.sections.specs.Passes.{furthest, lying, Apart, judgedBy, planOf, Small, planFor, Lies};
 use container::permitted;
 use kinds::Row;

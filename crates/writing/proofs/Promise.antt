@@ -29,7 +29,7 @@ use Rattle.container.proofs.Promise.{kind-exact, exact, conforms-parsed}
 use Rattle.sheet.specs.Sheet.{sheetOf, Sheeted, IsSheet}
 use Rattle.sheet.specs.Calls.{roomy, readOf, readOutput}
 use Rattle.sheet.proofs.Sheets.{conforming-sheet, conforming-bytes}
-use Rattle.sections.specs.Opening.{opened, keptOr, judged}
+use Rattle.sections.specs.Opened.{opened, keptOr, judged}
 use Rattle.writing.specs.Writing.{sizedOut, judgedOut, openedOut, writeOutput}
 use Rattle.writing.proofs.Sheets.{opened-exact, AllBytes, sheet-values, container-bytes}
 

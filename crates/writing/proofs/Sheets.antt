@@ -19,7 +19,7 @@ use Rattle.container.specs.Container.{Values, tagBytes, encode, outerTag, conta
 use Rattle.container.proofs.Tags.{Plain, Tags, short, double, tags}
 use Rattle.container.proofs.Exact.{bytes-front, bytes-back}
 use Rattle.sheet.specs.Sheet.{sheetOf, Sheeted, IsSheet}
-use Rattle.sections.specs.Opening.{ahead, opened}
+use Rattle.sections.specs.Opened.{ahead, opened}
 
 -- ---- what is taken apart was a sheet
 

@@ -18,7 +18,7 @@ use Rattle.verdicts.specs.declared.Fault.the-variants.{TornSheet}
 use Rattle.verdicts.specs.declared.Outcome.{Outcome}
 use Rattle.verdicts.specs.declared.Outcome.the-variants.{Fine, Broken}
 use Rattle.container.specs.Container.{Values, encode, container, largest}
-use Rattle.sections.specs.Opening.{opened, judged}
+use Rattle.sections.specs.Opened.{opened, judged}
 use Rattle.sections.specs.Passes.{planOf, openedPlan, planFor}
 use Rattle.sections.specs.declared.Plan.{Plan}
 use Rattle.sections.specs.declared.Plan.the-variants.{Refuse, Takes}

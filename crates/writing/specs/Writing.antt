@@ -14,7 +14,7 @@ use Rattle.verdicts.specs.declared.Outcome.{Outcome}
 use Rattle.verdicts.specs.declared.Outcome.the-variants.{Fine, Broken}
 use Rattle.container.specs.Container.{Values, container, largest}
 use Rattle.sheet.specs.Calls.{roomy}
-use Rattle.sections.specs.Opening.{opened, judged}
+use Rattle.sections.specs.Opened.{opened, judged}
 
 -- ---- the whole
 
