@@ -17,7 +17,7 @@ use Rattle.lengths.specs.Length.{lengthBytes}
 use Rattle.kinds.specs.Tables.{Entry, Table}
 use Rattle.verdicts.specs.declared.Finding.{Finding}
 use Rattle.container.specs.Container.{Values, tagBytes, long, has, tagHere, encode, Allowed}
-use Rattle.container.specs.Reading.{Parsed, values, fault, Part, bytesOf, alone, prepend, Element, whole, broken, element, follow, parse}
+use Rattle.container.specs.Reading.{Parsed, values, fault, Part, valuesOf, alone, prepend, Element, whole, broken, element, follow, parse}
 use Rattle.container.proofs.Rows.{Distinct}
 use Rattle.container.proofs.Tags.{Plain, Tags, tag-is, begins}
 use Rattle.container.proofs.One.{Good, element-is, element-of, good-fits, fits-good}
@@ -53,7 +53,7 @@ bytes-back xs ys b = rw (drop-append-seam xs ys) at (below-drop 256 (length xs) 
 module _ (today : ℕ) (all : Table) where
   -- these bytes are read as the values of these parts
   abbrev Of : Table → List ℕ → List (Option Part) → Type 0
-  Of rs s ps = Allowed today rs (bytesOf ps) × (s ≡ encode rs (bytesOf ps))
+  Of rs s ps = Allowed today rs (valuesOf ps) × (s ≡ encode rs (valuesOf ps))
 
   -- past an optional row
   skipped : (r : Entry) (rs : Table) (s : List ℕ) (p : Parsed Part) (ps : List (Option Part)) → r .optional ≡ true
@@ -81,7 +81,7 @@ module _ (today : ℕ) (all : Table) where
       let ih = k n qs p in
       let t : x ∷ s ≡ tagBytes (r .tag) ++ body = rw q at (tag-is all x s (b .0)) in
       let bv : Bytes v = bytes-front v (drop n body) (bytes-back (lengthBytes (length v)) (v ++ drop n body) (rw (g .2) at bb)) in
-      let y : drop n body ≡ encode rs (bytesOf qs) = drop-drop n (long (r .tag)) (x ∷ s) ∙ ih .1 in
+      let y : drop n body ≡ encode rs (valuesOf qs) = drop-drop n (long (r .tag)) (x ∷ s) ∙ ih .1 in
       rw z ((good-fits today r v bv (g .0), ih .0), t ∙ ap (λ (y : List ℕ). tagBytes (r .tag) ++ y) (g .2 ∙ ap (λ (y : List ℕ). lengthBytes (length v) ++ (v ++ y)) y))
 
   pub sound : (rest : Table) (at : ℕ) (s : List ℕ) → Bytes s → (ps : List (Option Part)) → parse today all rest at s ≡ values ps → Of rest s ps

@@ -21,8 +21,8 @@ use Rattle.kinds.specs.Tables.{Entry, Table, table}
 use Rattle.verdicts.specs.declared.Finding.{Finding}
 use Rattle.verdicts.specs.declared.Outcome.the-variants.{Fine, Broken}
 use Rattle.container.specs.Container.{Values, tagBytes, long, tagHere, outerTag, Allowed, largest}
-use Rattle.container.specs.Reading.{Parsed, values, fault, Part, bytesOf, alone, prepend, Element, whole, broken, element, follow, parse, inner, outer, located, parsed, outcomeOf}
-use Rattle.container.specs.Map.{laid, noted, mapOf, rowValue, shown}
+use Rattle.container.specs.Reading.{Parsed, values, fault, Part, valuesOf, alone, prepend, Element, whole, broken, element, follow, parse, inner, outer, located, parsed, outcomeOf}
+use Rattle.container.specs.Map.{laid, noted, mapOf, rowValue, rowValues}
 use Rattle.container.specs.declared.Map.{Map}
 use Rattle.container.proofs.One.{element-is}
 use Rattle.container.proofs.Tags.{tag-is}
@@ -186,7 +186,7 @@ laid-notes (some p ∷ ps) k from to a b e f =
     (λ j g. getD-set-other to k j (p .offset + length (p .bytes)) 0 (λ q. omega arith) ∙ f j (omega arith)))
 
 -- a value for each row
-allowed-long : (today : ℕ) (rs : Table) (ps : List (Option Part)) → Allowed today rs (bytesOf ps) → length ps ≡ length rs
+allowed-long : (today : ℕ) (rs : Table) (ps : List (Option Part)) → Allowed today rs (valuesOf ps) → length ps ≡ length rs
 allowed-long today [] [] a = refl
 allowed-long today [] (none ∷ ps) a = absurd a
 allowed-long today [] (some p ∷ ps) a = absurd a
@@ -222,24 +222,24 @@ module _ (m : Map) (c : List ℕ) where
       let n : p .offset + length (p .bytes) ≡ 0 → ⊥ = λ e. omega (arith, s .behind) in
       rw (h .0, h .1, ne-eqb _ _ n, add-sub-cancel-left, s .bytes)
 
-  rows-show : (ps : List (Option Part)) (k : ℕ) → All c ps → Notes m k ps → shown (m .from) (m .to) c (length ps) k ≡ bytesOf ps
-  unfolding shown
+  rows-show : (ps : List (Option Part)) (k : ℕ) → All c ps → Notes m k ps → rowValues (m .from) (m .to) c (length ps) k ≡ valuesOf ps
+  unfolding rowValues
   rows-show [] k a n = refl
   rows-show (none ∷ ps) k a n = rw (first-notes m k none ps n .1) (ap (λ (l : Values). none ∷ l) (rows-show ps (suc k) a (later-notes m k none ps n)))
   rows-show (some p ∷ ps) k a n =
       ap₂ (λ (o : Option (List ℕ)) (l : Values). o ∷ l) (row-shows k p (a .0) (first-notes m k (some p) ps n)) (rows-show ps (suc k) (a .1) (later-notes m k (some p) ps n))
 
 -- the row that is next, of n rows, and those after it
-pub shown-next : (starts ends c : List ℕ) (n i : ℕ) → i < n → shown starts ends c (n - i) i ≡ rowValue starts ends c i ∷ shown starts ends c (n - (i + 1)) (i + 1)
-unfolding shown
-shown-next starts ends c n i h = let z : n - i ≡ suc (n - (i + 1)) = omega arith in rw (z, ← add-one i)
+pub next-row : (starts ends c : List ℕ) (n i : ℕ) → i < n → rowValues starts ends c (n - i) i ≡ rowValue starts ends c i ∷ rowValues starts ends c (n - (i + 1)) (i + 1)
+unfolding rowValues
+next-row starts ends c n i h = let z : n - i ≡ suc (n - (i + 1)) = omega arith in rw (z, ← add-one i)
 
 -- the values that a container's map shows
 abbrev pub mapValues : ℕ → Map → List ℕ → Values
-mapValues kind m c = shown (m .from) (m .to) c (length (table kind)) 0
+mapValues kind m c = rowValues (m .from) (m .to) c (length (table kind)) 0
 
 -- are those that were read
-pub shows : (kind today : ℕ) (c : List ℕ) → Bytes c → (ps : List (Option Part)) → located kind today c ≡ values ps → mapValues kind (mapOf (located kind today c)) c ≡ bytesOf ps
+pub shows : (kind today : ℕ) (c : List ℕ) → Bytes c → (ps : List (Option Part)) → located kind today c ≡ values ps → mapValues kind (mapOf (located kind today c)) c ≡ valuesOf ps
 shows kind today c b ps e =
     rw (← rows-are kind today c b ps e)
     (rows-show (mapOf (located kind today c)) c ps 0 (stands kind today c b ps e) (λ i h. let z : 0 + i ≡ i = omega arith in rw z (lies kind today c b ps e i h)))

@@ -24,7 +24,7 @@ use Rattle.verdicts.proofs.Apart.{never-zero}
 use Rattle.verdicts.specs.declared.Outcome.{Outcome}
 use Rattle.verdicts.specs.declared.Outcome.the-variants.{Fine, Broken}
 use Rattle.container.specs.Container.{Values, encode, outerTag, container, Allowed, largest, Conforms}
-use Rattle.container.specs.Reading.{Parsed, values, fault, Part, bytesOf, alone, inner, outer, located, parsed, outcomeOf, outcome, verdict}
+use Rattle.container.specs.Reading.{Parsed, values, fault, Part, valuesOf, alone, inner, outer, located, parsed, outcomeOf, outcome, verdict}
 use Rattle.container.proofs.Tags.{distinct, tags}
 use Rattle.container.proofs.Exact.{no-values, sound, complete}
 use Rattle.container.specs.InOrder.{Named, no-kind, no-date, too-large, outer-tag, outer-length, outer-end, in-element}
@@ -42,10 +42,10 @@ kind-exact kind = (
 -- ---- what is read was written
 
 inner-is : (today : ℕ) (rows : Table) (o : Option Spelt) (s : List ℕ) → readLength s ≡ o → Bytes s → (ps : List (Option Part)) → inner today rows o s ≡ values ps
-    → let vs : Values = bytesOf ps in Allowed today rows vs × (s ≡ lengthBytes (length (encode rows vs)) ++ encode rows vs)
+    → let vs : Values = valuesOf ps in Allowed today rows vs × (s ≡ lengthBytes (length (encode rows vs)) ++ encode rows vs)
 inner-is today rows none s f b ps e = absurd (no-values e)
 inner-is today rows (some n) s f b ps e =
-    let vs : Values = bytesOf ps in
+    let vs : Values = valuesOf ps in
     elim (which (eqb (length s) (n .width + n .number))) [
       | inl q ↦
           let p = sound today rows rows (1 + n .width) (drop (n .width) s) (below-drop 256 (n .width) s b) ps (rw q at e) in
@@ -55,7 +55,7 @@ inner-is today rows (some n) s f b ps e =
       | inr q ↦ absurd (no-values (rw q at e))
     ]
 
-outer-is : (kind today : ℕ) (c : List ℕ) → Bytes c → (ps : List (Option Part)) → outer kind today c ≡ values ps → Allowed today (table kind) (bytesOf ps) × (c ≡ container kind (bytesOf ps))
+outer-is : (kind today : ℕ) (c : List ℕ) → Bytes c → (ps : List (Option Part)) → outer kind today c ≡ values ps → Allowed today (table kind) (valuesOf ps) × (c ≡ container kind (valuesOf ps))
 outer-is kind today [] b ps e = absurd (no-values e)
 outer-is kind today (t ∷ s) b ps e =
     elim (which (eqb t (outerTag kind))) [
@@ -83,7 +83,7 @@ in-outer-values kind today c ps e =
       | inr k ↦ absurd (no-values (rw k at e))
     ]
 
-pub located-conforms : (kind today : ℕ) (c : List ℕ) → Bytes c → (ps : List (Option Part)) → located kind today c ≡ values ps → Conforms kind today (bytesOf ps) c
+pub located-conforms : (kind today : ℕ) (c : List ℕ) → Bytes c → (ps : List (Option Part)) → located kind today c ≡ values ps → Conforms kind today (valuesOf ps) c
 located-conforms kind today c b ps e =
     let (k, d, l, o) = in-outer-values kind today c ps e in
     let p = outer-is kind today c b ps o in
@@ -94,7 +94,7 @@ unfolding parsed
 parsed-conforms kind today c b vs e = go (located kind today c) refl e
   where
     go : (p : Parsed Part) → located kind today c ≡ p → alone p ≡ values vs → Conforms kind today vs c
-    go (values ps) q z = let x : bytesOf ps ≡ vs = cc in rw (← x) (located-conforms kind today c b ps q)
+    go (values ps) q z = let x : valuesOf ps ≡ vs = cc in rw (← x) (located-conforms kind today c b ps q)
     go (fault f) q z = absurd (no-values z)
 
 -- ---- and what is written is read
@@ -113,11 +113,11 @@ conforms-parsed kind today c b vs h =
     (complete today (table kind) (table kind) (1 + length head) vs (tags kind) (distinct kind) (h .allowed) bb f)
 
 -- with their places
-pub conforms-located : (kind today : ℕ) (c : List ℕ) → Bytes c → (vs : Values) → Conforms kind today vs c → (ps : List (Option Part)) × (located kind today c ≡ values ps) × (bytesOf ps ≡ vs)
+pub conforms-located : (kind today : ℕ) (c : List ℕ) → Bytes c → (vs : Values) → Conforms kind today vs c → (ps : List (Option Part)) × (located kind today c ≡ values ps) × (valuesOf ps ≡ vs)
 unfolding parsed
 conforms-located kind today c b vs h = go (located kind today c) refl (conforms-parsed kind today c b vs h)
   where
-    go : (p : Parsed Part) → located kind today c ≡ p → alone p ≡ values vs → (ps : List (Option Part)) × (located kind today c ≡ values ps) × (bytesOf ps ≡ vs)
+    go : (p : Parsed Part) → located kind today c ≡ p → alone p ≡ values vs → (ps : List (Option Part)) × (located kind today c ≡ values ps) × (valuesOf ps ≡ vs)
     go (values ps) q z = (ps, q, cc)
     go (fault f) q z = absurd (no-values z)
 

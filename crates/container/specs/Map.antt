@@ -49,9 +49,9 @@ pub record Inside (starts ends : List ℕ) (size : ℕ) : Type 0 where
 abbrev pub rowValue : List ℕ → List ℕ → List ℕ → ℕ → Option (List ℕ)
 rowValue starts ends c i = cond (eqb (getD ends i 0) 0) none (some (part c (getD starts i 0) (getD ends i 0 - getD starts i 0)))
 
-unfoldable pub shown : List ℕ → List ℕ → List ℕ → ℕ → ℕ → Values
-shown starts ends c zero i = []
-shown starts ends c (suc n) i = rowValue starts ends c i ∷ shown starts ends c n (suc i)
+unfoldable pub rowValues : List ℕ → List ℕ → List ℕ → ℕ → ℕ → Values
+rowValues starts ends c zero i = []
+rowValues starts ends c (suc n) i = rowValue starts ends c i ∷ rowValues starts ends c n (suc i)
 
 -- ---- a turn of the walk over the elements
 

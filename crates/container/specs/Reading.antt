@@ -34,14 +34,14 @@ pub record Part : Type 0 where
   pub bytes : List ℕ
 
 -- the values of some parts
-abbrev pub bytesOf : List (Option Part) → Values
-bytesOf [] = []
-bytesOf (none ∷ ps) = none ∷ bytesOf ps
-bytesOf (some p ∷ ps) = some (p .bytes) ∷ bytesOf ps
+abbrev pub valuesOf : List (Option Part) → Values
+valuesOf [] = []
+valuesOf (none ∷ ps) = none ∷ valuesOf ps
+valuesOf (some p ∷ ps) = some (p .bytes) ∷ valuesOf ps
 
 -- what is read, without the places of the values
 abbrev pub alone : Parsed Part → Parsed (List ℕ)
-alone (values ps) = values (bytesOf ps)
+alone (values ps) = values (valuesOf ps)
 alone (fault f) = fault f
 
 abbrev pub prepend : {A : Type 0} → Option A → Parsed A → Parsed A

@@ -9,15 +9,15 @@ use lib.ListN.{length, getD}
 use Rattle.laws.proofs.Cases.{which}
 use Rattle.laws.proofs.Layouts.{part-long}
 use Rattle.kinds.specs.Tables.{table}
-use Rattle.container.specs.Map.{Inside, shown}
+use Rattle.container.specs.Map.{Inside, rowValues}
 use Rattle.container.specs.declared.Map.{Map}
 use Rattle.container.proofs.Lying.{mapValues}
 use Rattle.elements.specs.Elements.{shape}
 use Rattle.elements.specs.Map.{mapShape}
 
 module _ (starts ends c : List ℕ) (h : Inside starts ends (length c)) where
-  shown-shape : (n i : ℕ) → shape (shown starts ends c n i) ≡ mapShape starts ends n i
-  unfolding shown mapShape
+  shown-shape : (n i : ℕ) → shape (rowValues starts ends c n i) ≡ mapShape starts ends n i
+  unfolding rowValues mapShape
   shown-shape zero i = refl
   shown-shape (suc n) i =
       elim (which (eqb (getD ends i 0) 0)) [

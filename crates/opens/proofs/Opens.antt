@@ -16,7 +16,7 @@ use Rattle.dates.proofs.Dates.{text-exact, text-number}
 use Rattle.kinds.specs.Tables.{table}
 use Rattle.kinds.specs.declared.ValueRule.the-variants.{Expiry}
 use Rattle.container.specs.Container.{Values, Allowed}
-use Rattle.container.specs.Map.{rowValue, shown}
+use Rattle.container.specs.Map.{rowValue, rowValues}
 use Rattle.opens.specs.Open.{Open, bytesOf, holder, card, policy, issuer, agencyOf, systemOf, inHeader, taggedValue, openOf}
 use Rattle.opens.specs.Day.{dayNumber}
 use Rattle.opens.proofs.Openings.{value-keeps}
@@ -55,26 +55,26 @@ module _ (starts ends c : List ℕ) where
       ]
 
   abbrev pub values : ℕ → Values
-  values kind = shown starts ends c (length (table kind)) 0
+  values kind = rowValues starts ends c (length (table kind)) 0
 
   pub card-open : (today : ℕ) → Allowed today (table 2) (values 2) → card (agencyOf (row 1)) (systemOf (row 1)) (dayNumber (dateOf (row 5))) ≡ openOf 2 (values 2)
-  unfolding shown
+  unfolding rowValues
   card-open today a =
       ap₂ (λ (f e : List ℕ). card (agencyOf f) (systemOf f) (dayNumber (dateOf e))) (sym (row-bytes 1)) (sym (row-bytes 5))
       ∙ ap (λ (n : ℕ). card (agencyOf (bytesOf (rowValue starts ends c 1))) (systemOf (bytesOf (rowValue starts ends c 1))) n) (expiry-number today (values 2) a)
 
   pub policy-open : policy (row 1) ≡ openOf 3 (values 3)
-  unfolding shown
+  unfolding rowValues
   policy-open = ap policy (sym (row-bytes 1))
 
   pub issuer-open : issuer (row 4) ≡ openOf 4 (values 4)
-  unfolding shown
+  unfolding rowValues
   issuer-open = ap issuer (sym (row-bytes 4))
 
   pub fingers-open : holderOf (row 0) ≡ openOf 6 (values 6)
-  unfolding shown
+  unfolding rowValues
   fingers-open = ap holderOf (sym (row-bytes 0))
 
   pub face-open : holderOf (row 0) ≡ openOf 7 (values 7)
-  unfolding shown
+  unfolding rowValues
   face-open = ap holderOf (sym (row-bytes 0))

@@ -10,7 +10,7 @@ ghost use Rattle.fascn.specs.Reading.{decoded};
 ghost use Rattle.dates.specs.Date.{dateOf};
 ghost use Rattle.kinds.specs.Tables.{table};
 ghost use Rattle.container.specs.Container.{Allowed};
-ghost use Rattle.container.specs.Map.{Inside, shown};
+ghost use Rattle.container.specs.Map.{Inside, rowValues};
 ghost use Rattle.opens.specs.Open.{holder, card, policy, issuer, agencyOf, systemOf, inHeader, openOf, openPart};
 ghost use Rattle.opens.specs.Day.{dayNumber};
 use container::Map;
@@ -85,8 +85,8 @@ fn put_biometric(v: &[u8], out: &mut [u8]) -> usize
 // have to be allowed under some date, so that an expiry is a date.
 pub fn put_open(kind: u64, c: &[u8], map: Map, out: &mut [u8]) -> usize
     requires { ⌜ Inside (map .from) (map .to) (length (now c)) ⌝ }
-    requires { ⌜ ((today : ℕ) × Allowed today (table kind) (shown (map .from) (map .to) (now c) (length (table kind)) 0)) ⌝ }
-    ensures { λ r. ⌜ Put (openPart (openOf kind (shown (map .from) (map .to) (now (c .entry)) (length (table kind)) 0))) (now (out .entry)) (now (out .exit)) r ⌝ }
+    requires { ⌜ ((today : ℕ) × Allowed today (table kind) (rowValues (map .from) (map .to) (now c) (length (table kind)) 0)) ⌝ }
+    ensures { λ r. ⌜ Put (openPart (openOf kind (rowValues (map .from) (map .to) (now (c .entry)) (length (table kind)) 0))) (now (out .entry)) (now (out .exit)) r ⌝ }
 {
     match kind {
         1 => room::put_all(b"OPEN 1\nmodel 10\n", out),

@@ -10,7 +10,7 @@ ghost use Rattle.dates.specs.Date.{isDate};
 ghost use Rattle.kinds.specs.Tables.{table, isKind};
 ghost use Rattle.container.specs.Container.{Allowed, largest};
 ghost use Rattle.container.specs.Reading.{values, fault, parsed};
-ghost use Rattle.container.specs.Map.{Inside, shown};
+ghost use Rattle.container.specs.Map.{Inside, rowValues};
 ghost use Rattle.report.specs.Report.{reportText};
 ghost use Rattle.report.specs.Calls.{reportOutput};
 use container::Map;
@@ -22,8 +22,8 @@ use verdicts::Outcome;
 // A container that conforms.
 fn put_fine(kind: u64, today: u64, c: &[u8], map: Map, out: &mut [u8]) -> usize
     requires { ⌜ Inside (map .from) (map .to) (length (now c)) ⌝ }
-    requires { ⌜ ((today : ℕ) × Allowed today (table kind) (shown (map .from) (map .to) (now c) (length (table kind)) 0)) ⌝ }
-    ensures { λ r. ⌜ Put (reportText kind today (length (now (c .entry))) (values (shown (map .from) (map .to) (now (c .entry)) (length (table kind)) 0))) (now (out .entry)) (now (out .exit)) r ⌝ }
+    requires { ⌜ ((today : ℕ) × Allowed today (table kind) (rowValues (map .from) (map .to) (now c) (length (table kind)) 0)) ⌝ }
+    ensures { λ r. ⌜ Put (reportText kind today (length (now (c .entry))) (values (rowValues (map .from) (map .to) (now (c .entry)) (length (table kind)) 0))) (now (out .entry)) (now (out .exit)) r ⌝ }
 {
     let mut at = card::put_card(kind, c.len(), today, 0, 0, out);
     at += elements::put_elements(kind, map, &mut out[at..]);

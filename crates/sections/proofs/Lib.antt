@@ -1,4 +1,4 @@
 pub mod Judging
-pub mod Opening
+pub mod Opened
 pub mod Rows
 pub mod Ways

@@ -25,7 +25,7 @@ use Rattle.verdicts.specs.declared.Fault.the-variants.{MissingRow, ElementLengt
 use Rattle.verdicts.specs.declared.Ruling.{Ruling}
 use Rattle.verdicts.specs.declared.Ruling.the-variants.{Kept, Breaks}
 use Rattle.container.specs.Container.{Values, tagBytes, has, encode}
-use Rattle.container.specs.Map.{rowValue, shown}
+use Rattle.container.specs.Map.{rowValue, rowValues}
 use Rattle.container.proofs.Rows.{Distinct}
 use Rattle.container.proofs.Tags.{distinct, tags, Plain, Tags, short, double}
 use Rattle.sections.specs.Opened.{keptOr, judged}
@@ -113,13 +113,13 @@ judged-some today r rs v vs at =
 
 module _ (kind : ℕ) (s from to : List ℕ) where
   abbrev vals : ℕ → Values
-  vals i = shown from to s (length (drop i (table kind))) i
+  vals i = rowValues from to s (length (drop i (table kind))) i
 
   -- to write
   unfoldable pub textFrom : ℕ → List ℕ
   textFrom i = encode (drop i (table kind)) (vals i)
 
-  pub text-all : textFrom 0 ≡ encode (table kind) (shown from to s (length (table kind)) 0)
+  pub text-all : textFrom 0 ≡ encode (table kind) (rowValues from to s (length (table kind)) 0)
   unfolding textFrom
   text-all = refl
 
@@ -132,7 +132,7 @@ module _ (kind : ℕ) (s from to : List ℕ) where
     unfoldable pub bodyFrom : ℕ → ℕ → ℕ → Plan
     bodyFrom i at size = planOf (judged today (drop i (table kind)) (vals i) at) (size + length (encode (drop i (table kind)) (vals i)))
 
-    pub body-all : bodyFrom 0 0 0 ≡ planOf (judged today (table kind) (shown from to s (length (table kind)) 0) 0) (length (encode (table kind) (shown from to s (length (table kind)) 0)))
+    pub body-all : bodyFrom 0 0 0 ≡ planOf (judged today (table kind) (rowValues from to s (length (table kind)) 0) 0) (length (encode (table kind) (rowValues from to s (length (table kind)) 0)))
     unfolding bodyFrom
     body-all = rw zero-add
 
@@ -142,7 +142,7 @@ module _ (kind : ℕ) (s from to : List ℕ) where
 
   module _ (i : ℕ) {tag : ℕ} {optional : Bool} (k : Next kind i tag optional) where
     vals-next : vals i ≡ rowValue from to s i ∷ vals (i + 1)
-    unfolding shown
+    unfolding rowValues
     vals-next = rw (k .split, ← add-one i)
 
     -- a row that is absent

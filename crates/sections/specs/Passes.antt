@@ -16,7 +16,7 @@ use Rattle.verdicts.specs.declared.Ruling.the-variants.{Breaks}
 use Rattle.verdicts.specs.declared.Outcome.{Outcome}
 use Rattle.verdicts.specs.declared.Outcome.the-variants.{Fine, Broken}
 use Rattle.container.specs.Container.{Values, encode}
-use Rattle.container.specs.Map.{Inside, shown}
+use Rattle.container.specs.Map.{Inside, rowValues}
 use Rattle.sections.specs.Opened.{opened, judged}
 use Rattle.dates.specs.Date.{isDate}
 use Rattle.sections.specs.declared.Sheet.{Sheet}
@@ -32,7 +32,7 @@ furthest = 15 * 65536
 
 -- the values that lie so
 abbrev pub lying : ℕ → List ℕ → List ℕ → List ℕ → Values
-lying kind from to s = shown from to s (length (table kind)) 0
+lying kind from to s = rowValues from to s (length (table kind)) 0
 
 -- what was found is what the sheet opens to
 pub record Apart (kind : ℕ) (s : List ℕ) (x : Places) : Type 0 where

@@ -14,8 +14,8 @@ use Rattle.lengths.specs.Length.{lengthBytes}
 use Rattle.kinds.specs.Tables.{Table, table}
 use Rattle.container.specs.Container.{Values, tagBytes, encode, Allowed, Conforms}
 use Rattle.container.proofs.Exact.{bytes-front, bytes-back}
-use Rattle.container.specs.Map.{shown}
-use Rattle.container.proofs.Lying.{shown-next}
+use Rattle.container.specs.Map.{rowValues}
+use Rattle.container.proofs.Lying.{next-row}
 use Rattle.sheet.specs.Sheet.{count, section, sheetOf, Sheeted, IsSheet}
 
 -- ---- how long: two bytes for each row, and the values
@@ -36,26 +36,26 @@ sheet-length o vs = length-append (section o) (sheetOf vs) ∙ ap (λ (n : ℕ).
 
 module _ (starts ends c : List ℕ) (n i : ℕ) (h : i < n) where
   abbrev rest : Values
-  rest = shown starts ends c (n - (i + 1)) (i + 1)
+  rest = rowValues starts ends c (n - (i + 1)) (i + 1)
 
-  pub absent-next : getD ends i 0 ≡ 0 → sheetOf (shown starts ends c (n - i) i) ≡ count 0 ++ sheetOf rest
+  pub absent-next : getD ends i 0 ≡ 0 → sheetOf (rowValues starts ends c (n - i) i) ≡ count 0 ++ sheetOf rest
   unfolding sheetOf
-  absent-next e = rw (shown-next starts ends c n i h, e)
+  absent-next e = rw (next-row starts ends c n i h, e)
 
-  pub value-next : (getD ends i 0 ≡ 0 → ⊥) → sheetOf (shown starts ends c (n - i) i) ≡ section (some (part c (getD starts i 0) (getD ends i 0 - getD starts i 0))) ++ sheetOf rest
+  pub value-next : (getD ends i 0 ≡ 0 → ⊥) → sheetOf (rowValues starts ends c (n - i) i) ≡ section (some (part c (getD starts i 0) (getD ends i 0 - getD starts i 0))) ++ sheetOf rest
   unfolding sheetOf
-  value-next e = rw (shown-next starts ends c n i h, ne-eqb _ _ e)
+  value-next e = rw (next-row starts ends c n i h, ne-eqb _ _ e)
 
   pub value-length : (getD ends i 0 ≡ 0 → ⊥) → getD starts i 0 ≤ getD ends i 0 → getD ends i 0 ≤ length c
-      → length (sheetOf (shown starts ends c (n - i) i)) ≡ 2 + (getD ends i 0 - getD starts i 0) + length (sheetOf rest)
+      → length (sheetOf (rowValues starts ends c (n - i) i)) ≡ 2 + (getD ends i 0 - getD starts i 0) + length (sheetOf rest)
   value-length e o w =
       let v = part c (getD starts i 0) (getD ends i 0 - getD starts i 0) in
       let l : length v ≡ getD ends i 0 - getD starts i 0 = part-long c (getD starts i 0) (getD ends i 0 - getD starts i 0) (omega arith) in
       omega (arith, ap length (value-next e), length-append (section (some v)) (sheetOf rest), section-length (some v), l)
 
 -- no row is left, or all are
-pub none-left : (starts ends c : List ℕ) (n i : ℕ) → n ≤ i → sheetOf (shown starts ends c (n - i) i) ≡ []
-unfolding sheetOf shown
+pub none-left : (starts ends c : List ℕ) (n i : ℕ) → n ≤ i → sheetOf (rowValues starts ends c (n - i) i) ≡ []
+unfolding sheetOf rowValues
 none-left starts ends c n i h = let z : n - i ≡ 0 = omega arith in rw z
 
 -- ---- the values of a container that conforms

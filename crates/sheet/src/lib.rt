@@ -8,7 +8,7 @@ ghost use Rattle.laws.specs.Room.{laid, Put};
 ghost use Rattle.verdicts.specs.Output.{Leaves};
 ghost use Rattle.kinds.specs.Tables.{table};
 ghost use Rattle.container.specs.Container.{largest};
-ghost use Rattle.container.specs.Map.{Inside, shown};
+ghost use Rattle.container.specs.Map.{Inside, rowValues};
 ghost use Rattle.sheet.specs.Sheet.{count, section, sheetOf};
 ghost use Rattle.sheet.specs.Calls.{readOutput};
 use container::Map;
@@ -36,8 +36,8 @@ fn put_section(value: &[u8], out: &mut [u8]) -> usize
 // two bytes for each row, and the values.
 fn put_sheet(kind: u64, c: &[u8], map: Map, out: &mut [u8]) -> usize
     requires { ⌜ Inside (map .from) (map .to) (length (now c)) × (length (now c) ≤ largest) ⌝ }
-    ensures { λ r. ⌜ r ≡ length (sheetOf (shown (map .from) (map .to) (now (c .entry)) (length (table kind)) 0)) ⌝ }
-    ensures { λ r. ⌜ now (out .exit) ≡ laid (sheetOf (shown (map .from) (map .to) (now (c .entry)) (length (table kind)) 0)) (now (out .entry)) ⌝ }
+    ensures { λ r. ⌜ r ≡ length (sheetOf (rowValues (map .from) (map .to) (now (c .entry)) (length (table kind)) 0)) ⌝ }
+    ensures { λ r. ⌜ now (out .exit) ≡ laid (sheetOf (rowValues (map .from) (map .to) (now (c .entry)) (length (table kind)) 0)) (now (out .entry)) ⌝ }
 {
     let froms = map.from;
     let tos = map.to;

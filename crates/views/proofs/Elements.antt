@@ -17,7 +17,7 @@ use Rattle.verdicts.specs.declared.Fault.the-variants.{NoElement}
 use Rattle.kinds.specs.Tables.{Table, table, first, rowAt}
 use Rattle.kinds.specs.declared.Slot.the-variants.{Holds, End}
 use Rattle.container.specs.Container.{Values, has, Conforms}
-use Rattle.container.specs.Reading.{values, Part, bytesOf, located}
+use Rattle.container.specs.Reading.{values, Part, valuesOf, located}
 use Rattle.container.proofs.Rows.{Distinct}
 use Rattle.container.proofs.Tags.{distinct}
 use Rattle.container.proofs.Lying.{Stands, stands}
@@ -63,7 +63,7 @@ foreign (r ∷ rs) (p ∷ ps) t h =
 no-value : {v : List ℕ} → none ≡ some v → ⊥
 no-value e = let z : _≡_ {A = ℕ} 0 1 = cc in omega arith
 
-value-part : (ps : List (Option Part)) (i : ℕ) (v : List ℕ) → getD (bytesOf ps) i none ≡ some v → (p : Part) × (getD ps i none ≡ some p) × (p .bytes ≡ v)
+value-part : (ps : List (Option Part)) (i : ℕ) (v : List ℕ) → getD (valuesOf ps) i none ≡ some v → (p : Part) × (getD ps i none ≡ some p) × (p .bytes ≡ v)
 value-part [] zero v e = absurd (no-value e)
 value-part [] (suc i) v e = absurd (no-value e)
 value-part (none ∷ ps) zero v e = absurd (no-value e)
@@ -71,7 +71,7 @@ value-part (none ∷ ps) (suc i) v e = value-part ps i v e
 value-part (some p ∷ ps) zero v e = (p, refl, cc)
 value-part (some p ∷ ps) (suc i) v e = value-part ps i v e
 
-no-value-part : (ps : List (Option Part)) (i : ℕ) → getD (bytesOf ps) i none ≡ none → getD ps i none ≡ none
+no-value-part : (ps : List (Option Part)) (i : ℕ) → getD (valuesOf ps) i none ≡ none → getD ps i none ≡ none
 no-value-part [] zero e = refl
 no-value-part [] (suc i) e = refl
 no-value-part (none ∷ ps) zero e = refl
@@ -97,7 +97,7 @@ shows c v w p s q e = rw (e, ← q) (record { number = refl; place = refl; value
 
 module _ (kind today : ℕ) (c : List ℕ) (b : Bytes c) (vs : Values) (h : Conforms kind today vs c) where
   -- what is read of it
-  parts : (ps : List (Option Part)) × (located kind today c ≡ values ps) × (bytesOf ps ≡ vs)
+  parts : (ps : List (Option Part)) × (located kind today c ≡ values ps) × (valuesOf ps ≡ vs)
   parts = conforms-located kind today c b vs h
 
   module _ (i : ℕ) {t : ℕ} {o : Bool} (row : rowAt kind i ≡ Holds t o) where

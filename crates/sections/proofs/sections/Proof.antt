@@ -6,7 +6,7 @@ use lib.ListN.{length, length-set}
 use borrow.Author.Needs.{needs}
 use Rattle.kinds.specs.Tables.{table}
 use Rattle.kinds.proofs.Every.{few-rows, last-is-all}
-use Rattle.sections.proofs.Opening.{Noted, noted-first, no-count, absent, cut-short, value, all-noted}
+use Rattle.sections.proofs.Opened.{Noted, noted-first, no-count, absent, cut-short, value, all-noted}
 use Rattle.sections.proofs.sections.Statement.{statement}
 use Rattle.sections.proofs.sections.Tie as tie
 

@@ -9,7 +9,7 @@ use borrow.Author.Needs.{needs}
 use Rattle.laws.proofs.Rooms.{Left, begin, step, ended}
 use Rattle.kinds.specs.Tables.{table}
 use Rattle.kinds.proofs.Every.{few-rows, last-is-all}
-use Rattle.container.specs.Map.{Inside, shown}
+use Rattle.container.specs.Map.{Inside, rowValues}
 use Rattle.sheet.specs.Sheet.{sheetOf}
 use Rattle.sheet.proofs.Sheets.{absent-next, value-next, value-length, none-left}
 use Rattle.sheet.proofs.put_sheet.Statement.{statement}
@@ -18,8 +18,8 @@ use Rattle.sheet.proofs.put_sheet.Tie as tie
 abbrev Inv-loop : tie.InvT-loop
 Inv-loop kind c out₀ froms tos rows at₀ size₀ row₀ out at size row =
     let n : ℕ = length (table kind) in
-    let all : List ℕ = sheetOf (shown froms tos c n 0) in
-    let left : List ℕ = sheetOf (shown froms tos c (n - row) row) in
+    let all : List ℕ = sheetOf (rowValues froms tos c n 0) in
+    let left : List ℕ = sheetOf (rowValues froms tos c (n - row) row) in
     (row ≤ n) × (length out ≡ length out₀) × (at ≤ length out) × (size ≤ row * 32770) × (size + length left ≡ length all) × Left all left out₀ out at × Inside froms tos (length c) × (length c ≤ 32768) × (rows ≡ n)
 
 abbrev μ-loop : tie.MeasureT-loop

@@ -7,14 +7,14 @@ use borrow.Author.Needs.{needs}
 use Rattle.laws.proofs.Rooms.{same-room, Left, begin, same, step, ended}
 use Rattle.kinds.specs.Tables.{table}
 use Rattle.container.specs.Container.{encode}
-use Rattle.container.specs.Map.{Inside, shown}
+use Rattle.container.specs.Map.{Inside, rowValues}
 use Rattle.sections.proofs.Rows.{Next, next, no-row, past-rows, small-tag, textFrom, text-all, text-end, text-absent, text-value}
 use Rattle.writing.proofs.put_elements.Statement.{statement}
 use Rattle.writing.proofs.put_elements.Tie as tie
 
 abbrev Inv-loop : tie.InvT-loop
 Inv-loop kind s out₀ froms tos at₀ row₀ out at row =
-    (row ≤ 16) × (length out ≡ length out₀) × (at ≤ length out₀) × Left (encode (table kind) (shown froms tos s (length (table kind)) 0)) (textFrom kind s froms tos row) out₀ out at × Inside froms tos (length s)
+    (row ≤ 16) × (length out ≡ length out₀) × (at ≤ length out₀) × Left (encode (table kind) (rowValues froms tos s (length (table kind)) 0)) (textFrom kind s froms tos row) out₀ out at × Inside froms tos (length s)
 
 abbrev μ-loop : tie.MeasureT-loop
 μ-loop kind s out₀ froms tos at₀ row₀ out at row = 16 - row

@@ -17,7 +17,7 @@ use Rattle.laws.proofs.Cases.{which}
 use Rattle.laws.proofs.Turns.{from-one}
 use Rattle.kinds.specs.Tables.{Table, table}
 use Rattle.container.specs.Container.{Values}
-use Rattle.container.specs.Map.{Inside, rowValue, shown}
+use Rattle.container.specs.Map.{Inside, rowValue, rowValues}
 use Rattle.container.proofs.Noting.{none-noted, inside-first, inside-next}
 use Rattle.sections.specs.Opened.{ahead, opened}
 use Rattle.sections.specs.Passes.{furthest}
@@ -53,13 +53,13 @@ before-ahead vs o (some ws) = ap some (sym (append-assoc vs (o ∷ []) ws))
 
 -- ---- what is noted shows one row more, and the rows before it as they were
 
-shown-last : (starts ends c : List ℕ) (n i k : ℕ) → k ≡ i + n → shown starts ends c (suc n) i ≡ shown starts ends c n i ++ rowValue starts ends c k ∷ []
-unfolding shown
-shown-last starts ends c zero i k e = let z : k ≡ i = omega arith in rw z
-shown-last starts ends c (suc n) i k e = ap (λ (l : Values). rowValue starts ends c i ∷ l) (shown-last starts ends c n (suc i) k (omega arith))
+last-row : (starts ends c : List ℕ) (n i k : ℕ) → k ≡ i + n → rowValues starts ends c (suc n) i ≡ rowValues starts ends c n i ++ rowValue starts ends c k ∷ []
+unfolding rowValues
+last-row starts ends c zero i k e = let z : k ≡ i = omega arith in rw z
+last-row starts ends c (suc n) i k e = ap (λ (l : Values). rowValue starts ends c i ∷ l) (last-row starts ends c n (suc i) k (omega arith))
 
-shown-before : (starts ends c : List ℕ) (k a e n i : ℕ) → i + n ≤ k → shown (set starts k a) (set ends k e) c n i ≡ shown starts ends c n i
-unfolding shown
+shown-before : (starts ends c : List ℕ) (k a e n i : ℕ) → i + n ≤ k → rowValues (set starts k a) (set ends k e) c n i ≡ rowValues starts ends c n i
+unfolding rowValues
 shown-before starts ends c k a e zero i h = refl
 shown-before starts ends c k a e (suc n) i h =
     let d : i ≡ k → ⊥ = λ q. omega arith in
@@ -70,12 +70,12 @@ shown-before starts ends c k a e (suc n) i h =
 -- the rows before number i are noted, and the bytes before `at` behind
 pub record Noted (kind : ℕ) (s from to : List ℕ) (at i : ℕ) : Type 0 where
   pub empty : (j : ℕ) → i ≤ j → getD to j 0 ≡ 0
-  pub opens : opened (table kind) s ≡ before (shown from to s i 0) (opened (drop i (table kind)) (drop at s))
+  pub opens : opened (table kind) s ≡ before (rowValues from to s i 0) (opened (drop i (table kind)) (drop at s))
   pub inside : Inside from to (length s)
   pub near : Inside from to furthest
 
 pub noted-first : (kind : ℕ) (s : List ℕ) → Noted kind s (zeros 16) (zeros 16) 0 0
-unfolding shown
+unfolding rowValues
 noted-first kind s = record { empty = λ j h. none-noted j; opens = before-none (opened (table kind) s); inside = inside-first (length s); near = inside-first furthest }
 
 module _ (kind : ℕ) (s from to : List ℕ) (at i : ℕ) (w : Noted kind s from to at i) where
@@ -98,11 +98,11 @@ module _ (kind : ℕ) (s from to : List ℕ) (at i : ℕ) (w : Noted kind s from
 
       pub absent : a * 256 + b ≡ 0 → Noted kind s from to (at + 2) (i + 1)
       absent z =
-          let l : shown from to s (i + 1) 0 ≡ shown from to s i 0 ++ none ∷ [] =
-          rw (add-one i) (shown-last from to s i 0 i (omega arith) ∙ rw (w .empty i (omega arith))) in
+          let l : rowValues from to s (i + 1) 0 ≡ rowValues from to s i 0 ++ none ∷ [] =
+          rw (add-one i) (last-row from to s i 0 i (omega arith) ∙ rw (w .empty i (omega arith))) in
           record {
             empty = λ j k. w .empty j (omega arith);
-            opens = w .opens ∙ rw (section, eq-eqb (a * 256 + b) 0 z, l) (before-ahead (shown from to s i 0) none (opened (drop (i + 1) (table kind)) (drop (at + 2) s)));
+            opens = w .opens ∙ rw (section, eq-eqb (a * 256 + b) 0 z, l) (before-ahead (rowValues from to s i 0) none (opened (drop (i + 1) (table kind)) (drop (at + 2) s)));
             inside = w .inside;
             near = w .near;
           }
@@ -124,19 +124,19 @@ module _ (kind : ℕ) (s from to : List ℕ) (at i : ℕ) (w : Noted kind s from
             let u : end ≡ 0 → ⊥ = λ r. omega arith in
             let o : start + (a * 256 + b - 1) ≡ end = omega (arith, z) in
             let d : drop (a * 256 + b - 1) (drop start s) ≡ drop end s = drop-drop (a * 256 + b - 1) start s ∙ rw o in
-            let x : shown (set from i start) (set to i end) s (i + 1) 0 ≡ shown from to s i 0 ++ some v ∷ [] =
+            let x : rowValues (set from i start) (set to i end) s (i + 1) 0 ≡ rowValues from to s i 0 ++ some v ∷ [] =
             rw (add-one i)
-            (shown-last (set from i start) (set to i end) s i 0 i (omega arith)
+            (last-row (set from i start) (set to i end) s i 0 i (omega arith)
             ∙ rw (shown-before from to s i start end i 0 (omega arith), getD-set-same from i start 0 (omega arith), getD-set-same to i end 0 (omega arith), ne-eqb end 0 u, y)) in
             record {
               empty = λ j r. getD-set-other to i j end 0 (λ t. omega arith) ∙ w .empty j (omega arith);
-              opens = w .opens ∙ rw (section, ne-eqb (a * 256 + b) 0 z, le-ltb _ _ k, d, x) (before-ahead (shown from to s i 0) (some v) (opened (drop (i + 1) (table kind)) (drop end s)));
+              opens = w .opens ∙ rw (section, ne-eqb (a * 256 + b) 0 z, le-ltb _ _ k, d, x) (before-ahead (rowValues from to s i 0) (some v) (opened (drop (i + 1) (table kind)) (drop end s)));
               inside = inside-next from to (length s) i start end p q m (omega (arith, z)) (omega arith) (w .inside);
               near = inside-next from to furthest i start end p q m (omega (arith, z)) n (w .near);
             }
 
   -- no row is left
-  pub all-noted : length (table kind) ≡ i → at ≤ length s → opened (table kind) s ≡ cond (eqb at (length s)) (some (shown from to s (length (table kind)) 0)) none
+  pub all-noted : length (table kind) ≡ i → at ≤ length s → opened (table kind) s ≡ cond (eqb at (length s)) (some (rowValues from to s (length (table kind)) 0)) none
   all-noted h g =
       let n : length (table kind) ≤ i = omega arith in
       let e : drop i (table kind) ≡ [] = drop-of-length-le (table kind) n in
