@@ -197,9 +197,8 @@ pub fn outer_tag(kind: u64) -> u8
     0x53
 }
 
-// The walk: the outer form (10, 11, 12, each with place 0), then the elements. A caller that has tested kind, date and size
-// itself, in an order of its own, comes in here.
-pub fn walk(kind: u64, today: u64, c: &[u8]) -> Map
+// The outer form: 10, 11, 12, each with place 0; then the elements.
+fn whole(kind: u64, today: u64, c: &[u8]) -> Map
     requires { ⌜ length (now c) ≤ largest ⌝ }
     ensures { λ r. ⌜ r ≡ mapOf (outer kind today (now (c .entry))) ⌝ }
     ensures { λ r. ⌜ Inside (r .from) (r .to) (length (now (c .entry))) ⌝ }
@@ -235,7 +234,7 @@ pub fn judge(kind: u64, today: u64, c: &[u8]) -> Map
     if 32768 < c.len() {
         return outright(Fault::LargeContainer);
     }
-    walk(kind, today, c)
+    whole(kind, today, c)
 }
 
 // The verdict: 0, or the number of the first broken rule and its place.

@@ -1,14 +1,11 @@
 // The desk report: CARD, ELEMENTS and OPEN, as text into a lent room. The container is walked once, by the judge; all that is
 // written of it is taken by the map.
-ghost use mathlib.Core.Path.{_≡_};
-ghost use mathlib.Core.Bool.{true};
-ghost use Prim.Native.Nat.{ℕ, _≤_};
+ghost use Prim.Native.Nat.{ℕ};
 ghost use lib.ListN.{length};
 ghost use Rattle.laws.specs.Room.{Put};
 ghost use Rattle.verdicts.specs.Output.{Leaves};
-ghost use Rattle.dates.specs.Date.{isDate};
-ghost use Rattle.kinds.specs.Tables.{table, isKind};
-ghost use Rattle.container.specs.Container.{Allowed, largest};
+ghost use Rattle.kinds.specs.Tables.{table};
+ghost use Rattle.container.specs.Container.{Allowed};
 ghost use Rattle.container.specs.Reading.{values, fault, parsed};
 ghost use Rattle.container.specs.Map.{Inside, rowValues};
 ghost use Rattle.report.specs.Report.{reportText};
@@ -39,12 +36,10 @@ fn put_broken(kind: u64, today: u64, size: usize, f: Finding, out: &mut [u8]) ->
     at + room::put_all(b"ELEMENTS 0\nOPEN 0\n", &mut out[at..])
 }
 
-// Kind, date and size were tested: the walk begins at once.
 fn put_report(kind: u64, today: u64, c: &[u8], out: &mut [u8]) -> usize
-    requires { ⌜ (isKind kind ≡ true) × (isDate today ≡ true) × (length (now c) ≤ largest) ⌝ }
     ensures { λ r. ⌜ Put (reportText kind today (length (now (c .entry))) (parsed kind today (now (c .entry)))) (now (out .entry)) (now (out .exit)) r ⌝ }
 {
-    let map = container::walk(kind, today, c);
+    let map = container::judge(kind, today, c);
     let outcome = map.outcome;
     match outcome {
         Outcome::Fine => put_fine(kind, today, c, map, out),

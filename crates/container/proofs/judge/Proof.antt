@@ -42,7 +42,7 @@ returns-4 : tie.Need-returns-4
 returns-4 c =
     let e = c .before .before in
     let a = e .before .before .before .before .before .args in
-    (c .walk .ensures .0 ∙ goes-in (a .kind) (a .today) (a .c .now) (a-kind (e .before .before)) (a-date e) (c .before .if3 .left), c .walk .ensures .1)
+    (c .whole .ensures .0 ∙ goes-in (a .kind) (a .today) (a .c .now) (a-kind (e .before .before)) (a-date e) (c .before .if3 .left), c .whole .ensures .1)
 
 pub judge-spec : {M : Type 1} → statement M
 judge-spec =

@@ -1,13 +1,11 @@
 -- `report::put_report` meets its contract: the report of what the map shows, which is what was read. Assumes nothing.
-use mathlib.Core.Path.{_≡_, sym, ap, _∙_}
+use mathlib.Core.Path.{_≡_, sym, ap}
 use borrow.Author.Needs.{needs}
 use lib.ListN.{length}
 use Rattle.laws.specs.Bytes.{Bytes}
 use Rattle.laws.proofs.Bases.{below-of}
 use Rattle.laws.proofs.Rooms.{same-text}
-use Rattle.container.specs.Reading.{values, located, parsed}
-use Rattle.container.specs.Map.{mapOf}
-use Rattle.container.proofs.Ways.{goes-in}
+use Rattle.container.specs.Reading.{values, parsed}
 use Rattle.container.proofs.Promise.{exact}
 use Rattle.container.proofs.Lying.{mapValues, read-fine, read-broken}
 use Rattle.report.specs.Report.{reportText}
@@ -17,21 +15,14 @@ use Rattle.report.proofs.put_report.Tie as tie
 bytes : (x : tie.After-shared-slice-known) → Bytes (x .before .args .c .now)
 bytes x = below-of 256 (x .before .args .c .now) (λ i. x .shared-slice-known .given i .fits)
 
--- the map is that of the whole check
-whole : (j : tie.After-walk) → let a = j .before .before .before .args in j .walk .result ≡ mapOf (located (a .kind) (a .today) (a .c .now))
-whole j =
-    let s = j .before .before .before in
-    let a = s .args in
-    j .walk .ensures .0 ∙ goes-in (a .kind) (a .today) (a .c .now) (s .pre .0) (s .pre .1) (s .pre .2)
-
 -- nothing is wrong: the map shows what was read
 fine : (t : tie.After-enum-told) → let j = t .before .before in let a = j .before .before .before .args in
-    parsed (a .kind) (a .today) (a .c .now) ≡ values (mapValues (a .kind) (j .walk .result) (a .c .now))
+    parsed (a .kind) (a .today) (a .c .now) ≡ values (mapValues (a .kind) (j .judge .result) (a .c .now))
 fine t =
     let j = t .before .before in
     let x = j .before .before in
     let a = x .before .args in
-    read-fine (a .kind) (a .today) (a .c .now) (whole j) (bytes x) (t .enum-told .given .1)
+    read-fine (a .kind) (a .today) (a .c .now) (j .judge .ensures .0) (bytes x) (t .enum-told .given .1)
 
 put-fine-requires : tie.Need-put-fine-requires
 put-fine-requires c κs =
@@ -39,7 +30,7 @@ put-fine-requires c κs =
     let j = t .before .before in
     let x = j .before .before in
     let a = x .before .args in
-    (j .walk .ensures .1, (a .today, exact (a .kind) (a .today) (a .c .now) (bytes x) _ .0 (fine t) .allowed))
+    (j .judge .ensures .1, (a .today, exact (a .kind) (a .today) (a .c .now) (bytes x) _ .0 (fine t) .allowed))
 
 returns : tie.Need-returns
 returns c =
@@ -54,14 +45,14 @@ returns-2 c =
     let f = p .before .before .before in
     let j = f .before .before in
     let a = j .before .before .before .args in
-    let e = read-broken (a .kind) (a .today) (a .c .now) (whole j) (f .outcome .given .1) in
+    let e = read-broken (a .kind) (a .today) (a .c .now) (j .judge .ensures .0) (f .outcome .given .1) in
     same-text (ap (reportText (a .kind) (a .today) (length (a .c .now))) (sym e)) (p .put-broken .ensures)
 
 pub put-report-spec : {M : Type 1} → statement M
 put-report-spec =
     tie.close
     (tie.spec
-    (λ c κs. c .before .before .pre .2)
+    (λ c κs. search needs)
     (λ c. search needs)
     put-fine-requires
     (λ c. search needs)

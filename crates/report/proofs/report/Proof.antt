@@ -117,7 +117,7 @@ report-spec =
     (λ c κs. search needs)
     (λ c. search needs)
     returns-4
-    (λ c κs. let s = c .before in (a-kind (s .before .before .before .before), a-date (s .before .before), s .if4 .left))
+    (λ c κs. search needs)
     (λ c κs. search needs)
     (λ c κs. search needs)
     (λ c κs. search needs)

@@ -1,4 +1,4 @@
--- `container::walk` meets its contract: a law for each way out. Assumes nothing.
+-- `container::whole` meets its contract: a law for each way out. Assumes nothing.
 use Prim.Native.Nat.{_≤_}
 use mathlib.Core.Path.{_≡_, sym, _∙_}
 use native.Mathlib.Omega.{arith}
@@ -11,8 +11,8 @@ use Rattle.lengths.specs.declared.Length.the-variants.{Is}
 use Rattle.container.specs.Container.{outerTag}
 use Rattle.container.proofs.Noting.{inside-first}
 use Rattle.container.proofs.Ways.{no-bytes, wrong-tag, no-length, within-outer, off-end, fits-outer}
-use Rattle.container.proofs.walk.Statement.{statement}
-use Rattle.container.proofs.walk.Tie as tie
+use Rattle.container.proofs.whole.Statement.{statement}
+use Rattle.container.proofs.whole.Tie as tie
 
 -- the outer tag is the kind's
 tagged : (c : tie.Else2) → let a = c .before .before .before .before .before .args in getD (a .c .now) 0 0 ≡ outerTag (a .kind)
@@ -66,8 +66,8 @@ returns-5 c =
       c .elements .ensures .1,
     )
 
-pub walk-spec : {M : Type 1} → statement M
-walk-spec =
+pub whole-spec : {M : Type 1} → statement M
+whole-spec =
     tie.close
     (tie.spec
     (λ c κs. search needs)
