@@ -1,8 +1,10 @@
 // A value sheet taken apart: where each row's value lies, and what the values come to: 1, 2, 5, then row by row 15, 16 and the
 // value's rules.
 ghost use mathlib.Core.Path.{_≡_};
+ghost use mathlib.Core.Bool.{false};
 ghost use Prim.Native.Nat.{_<_, _≤_, _+_};
 ghost use lib.ListN.{length};
+ghost use Rattle.laws.specs.Room.{zeros};
 ghost use Rattle.kinds.specs.Tables.{table, rowOf, permits};
 ghost use Rattle.lengths.specs.Length.{lengthBytes};
 ghost use Rattle.verdicts.specs.Verdicts.{found};
@@ -48,6 +50,17 @@ fn refuse(f: Fault, place: usize) -> Plan
     Plan::Refuse(verdicts::found(f, place))
 }
 
+// A sheet that is cut short: nothing lies anywhere.
+fn torn() -> Places
+    ensures { λ r. ⌜ r ≡ record { whole = false; from = zeros 16; to = zeros 16 } ⌝ }
+{
+    Places {
+        whole: false,
+        from: [0u32; 16],
+        to: [0u32; 16],
+    }
+}
+
 // A first pass, from count to count: "a two-byte big-endian count, 0 for absent, else n + 1, then n bytes". The sheet is torn
 // where it is cut short or has bytes left over.
 fn sections(kind: u64, s: &[u8]) -> Places
@@ -63,22 +76,14 @@ fn sections(kind: u64, s: &[u8]) -> Places
         row += 1;
         let left = s.len() - at;
         if left < 2 {
-            return Places {
-                whole: false,
-                from: from,
-                to: to,
-            };
+            return torn();
         }
         let count = numbers::index(s[at]) * 256 + numbers::index(s[at + 1]);
         if count == 0 {
             at += 2;
         } else {
             if left <= count {
-                return Places {
-                    whole: false,
-                    from: from,
-                    to: to,
-                };
+                return torn();
             }
             let start = at + 2;
             let end = at + 1 + count;
