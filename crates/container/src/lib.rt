@@ -2,6 +2,7 @@
 // value lies.
 ghost use mathlib.Core.Path.{_≡_};
 ghost use Prim.Native.Nat.{_<_, _≤_, _+_, _-_};
+ghost use lib.Dec.{ltb};
 ghost use lib.ListN.{length, drop, getD};
 ghost use Rattle.laws.specs.Room.{zeros};
 ghost use Rattle.laws.specs.Layout.{part};
@@ -220,6 +221,13 @@ fn whole(kind: u64, today: u64, c: &[u8]) -> Map
     }
 }
 
+// "A container has at most 32,768 bytes": whether so many are more.
+pub fn too_large(size: usize) -> bool
+    ensures { λ r. ⌜ r ≡ ltb largest size ⌝ }
+{
+    32768 < size
+}
+
 // The check, and the map of what it read: 1, 2, 4, then the outer form, then each element.
 pub fn judge(kind: u64, today: u64, c: &[u8]) -> Map
     ensures { λ r. ⌜ r ≡ mapOf (located kind today (now (c .entry))) ⌝ }
@@ -231,7 +239,7 @@ pub fn judge(kind: u64, today: u64, c: &[u8]) -> Map
     if !dates::is_date(today) {
         return outright(Fault::NoDate);
     }
-    if 32768 < c.len() {
+    if too_large(c.len()) {
         return outright(Fault::LargeContainer);
     }
     whole(kind, today, c)

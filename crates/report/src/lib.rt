@@ -62,7 +62,7 @@ pub fn report(kind: u64, today: u64, container: &[u8], room: &mut [u8]) -> Done
     if room.len() < 512 {
         return verdicts::refused(verdicts::found(Fault::SmallRoom, 0));
     }
-    if 32768 < container.len() {
+    if container::too_large(container.len()) {
         return verdicts::refused(verdicts::found(Fault::LargeContainer, 0));
     }
     let length = put_report(kind, today, container, room);

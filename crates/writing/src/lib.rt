@@ -84,7 +84,7 @@ fn fitted(plan: Plan, room: usize) -> Plan
         Plan::Refuse(f) => Plan::Refuse(f),
         Plan::Takes(n) => {
             let size = 1 + lengths::length_width(n) + n;
-            if 32768 < size {
+            if container::too_large(size) {
                 return Plan::Refuse(verdicts::found(Fault::LargeContainer, 0));
             }
             if room < size {

@@ -1,10 +1,13 @@
 -- `container::judge` meets its contract: 1, 2, 4, then the outer form. Assumes nothing.
+use Prim.Native.Nat.{_≤_}
 use mathlib.Core.Path.{_≡_, sym, _∙_}
 use mathlib.Core.Bool.{true}
+use lib.ListN.{length}
 use borrow.Author.Needs.{needs}
-use borrow.Author.Tests.{not-true, not-false}
+use borrow.Author.Tests.{not-true, not-false, ltb-true, ltb-false}
 use Rattle.dates.specs.Date.{isDate}
 use Rattle.kinds.specs.Tables.{isKind}
+use Rattle.container.specs.Container.{largest}
 use Rattle.container.proofs.Noting.{inside-first}
 use Rattle.container.proofs.Ways.{bad-kind, bad-date, too-large, goes-in}
 use Rattle.container.proofs.judge.Statement.{statement}
@@ -33,16 +36,22 @@ a-date e = sym (e .before .is-date .ensures) ∙ not-false _ (e .if2 .left)
 
 returns-3 : tie.Need-returns-3
 returns-3 c =
-    let t = c .before in
-    let e = t .before in
-    let a = e .before .before .before .before .before .args in
-    (c .outright3 .ensures ∙ too-large (a .kind) (a .today) (a .c .now) (a-kind (e .before .before)) (a-date e) (t .if3 .taken), rw (c .outright3 .ensures) (inside-first _))
+    let l = c .before .before in
+    let e = l .before in
+    let a = e .before .before .before .before .before .args in (
+      c .outright3 .ensures ∙ too-large (a .kind) (a .today) (a .c .now) (a-kind (e .before .before)) (a-date e) (ltb-true _ _ (sym (l .too-large .ensures) ∙ c .before .if3 .taken)),
+      rw (c .outright3 .ensures) (inside-first _),
+    )
+
+-- the size is permitted
+fits : (e : tie.Else3) → length (e .before .before .before .before .before .before .before .args .c .now) ≤ largest
+fits e = ltb-false _ _ (sym (e .before .too-large .ensures) ∙ e .if3 .left)
 
 returns-4 : tie.Need-returns-4
 returns-4 c =
-    let e = c .before .before in
+    let e = c .before .before .before in
     let a = e .before .before .before .before .before .args in
-    (c .whole .ensures .0 ∙ goes-in (a .kind) (a .today) (a .c .now) (a-kind (e .before .before)) (a-date e) (c .before .if3 .left), c .whole .ensures .1)
+    (c .whole .ensures .0 ∙ goes-in (a .kind) (a .today) (a .c .now) (a-kind (e .before .before)) (a-date e) (fits (c .before)), c .whole .ensures .1)
 
 pub judge-spec : {M : Type 1} → statement M
 judge-spec =
@@ -55,6 +64,7 @@ judge-spec =
     (λ c κs. search needs)
     returns-2
     (λ c κs. search needs)
-    returns-3
     (λ c κs. search needs)
+    returns-3
+    (λ c κs. fits c)
     returns-4)

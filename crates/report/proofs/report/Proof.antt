@@ -5,13 +5,14 @@ use mathlib.Core.Bool.{true}
 use native.Mathlib.Nat.{le-trans}
 use native.Mathlib.Omega.{arith}
 use lib.ListN.{length}
-use borrow.Author.Tests.{not-true, not-false}
+use borrow.Author.Tests.{not-true, not-false, ltb-true, ltb-false}
 use Rattle.laws.specs.Bytes.{Bytes}
 use Rattle.laws.proofs.Bases.{below-of}
 use Rattle.laws.proofs.Rooms.{put-filled}
 use Rattle.dates.specs.Date.{isDate}
 use Rattle.kinds.specs.Tables.{isKind}
 use Rattle.verdicts.proofs.Outputs.{refuses, gives}
+use Rattle.container.specs.Container.{largest}
 use Rattle.report.proofs.Answers.{report-1, report-2, report-3, report-4, report-0, short}
 use borrow.Author.Needs.{needs}
 use Rattle.report.proofs.report.Statement.{statement}
@@ -26,6 +27,10 @@ a-kind e = sym (e .before .is-kind .ensures) ∙ not-false _ (e .if1 .left)
 
 a-date : (f : tie.Else2) → isDate (f .before .before .before .before .before .before .before .before .before .before .args .today) ≡ true
 a-date f = sym (f .before .is-date .ensures) ∙ not-false _ (f .if2 .left)
+
+-- the size is permitted
+small : (s : tie.Else4) → length (s .before .before .before .before .before .before .before .before .before .before .before .before .before .args .container .now) ≤ largest
+small s = ltb-false _ _ (sym (s .before .too-large .ensures) ∙ s .if4 .left)
 
 returns : tie.Need-returns
 returns c =
@@ -57,42 +62,42 @@ returns-3 c =
 returns-4 : tie.Need-returns-4
 returns-4 c =
     let t = c .before .before in
-    let g = t .before in
+    let g = t .before .before in
     let f = g .before in
     let e = f .before .before in
     let z = e .before .before .before .before in
     let a = z .before .before .before .before .args in
     let l : 512 ≤ length (a .room .now) = omega (arith, g .if3 .left) in
-    refuses (a .room .now) (report-4 (a .kind) (a .today) (a .container .now) _ (a-kind e) (a-date f) l (t .if4 .taken)) (z .clear .ensures) (rw (c .before .found4 .ensures) at (c .refused4 .ensures))
+    refuses (a .room .now) (report-4 (a .kind) (a .today) (a .container .now) _ (a-kind e) (a-date f) l (ltb-true _ _ (sym (t .before .too-large .ensures) ∙ t .if4 .taken))) (z .clear .ensures) (rw (c .before .found4 .ensures) at (c .refused4 .ensures))
 
 returns-5 : tie.Need-returns-5
 returns-5 c =
     let t = c .before .before .before .before .before .before in
     let p = t .before .before .before in
     let s = p .before .before in
-    let g = s .before in
+    let g = s .before .before in
     let f = g .before in
     let e = f .before .before in
     let z = e .before .before .before .before in
     let x = z .before .before .before in
     let a = x .before .args in
     let l : 512 ≤ length (a .room .now) = omega (arith, g .if3 .left) in
-    let h = short (a .kind) (a .today) (a .container .now) (length (a .room .now)) (a-kind e) (a-date f) l (s .if4 .left) (bytes x) in
+    let h = short (a .kind) (a .today) (a .container .now) (length (a .room .now)) (a-kind e) (a-date f) l (small s) (bytes x) in
     absurd (omega (arith, put-filled (z .clear .ensures) (le-trans h l) (p .put-report .ensures) .1, h, t .if5 .taken))
 
 returns-6 : tie.Need-returns-6
 returns-6 c =
     let p = c .before .before .before .before in
     let s = p .before .before in
-    let g = s .before in
+    let g = s .before .before in
     let f = g .before in
     let e = f .before .before in
     let z = e .before .before .before .before in
     let x = z .before .before .before in
     let a = x .before .args in
     let l : 512 ≤ length (a .room .now) = omega (arith, g .if3 .left) in
-    let h = short (a .kind) (a .today) (a .container .now) (length (a .room .now)) (a-kind e) (a-date f) l (s .if4 .left) (bytes x) in
-    gives (a .room .now) (report-0 (a .kind) (a .today) (a .container .now) _ (a-kind e) (a-date f) l (s .if4 .left) (bytes x)) (z .clear .ensures) (le-trans h l) (p .put-report .ensures) (c .wrote .ensures)
+    let h = short (a .kind) (a .today) (a .container .now) (length (a .room .now)) (a-kind e) (a-date f) l (small s) (bytes x) in
+    gives (a .room .now) (report-0 (a .kind) (a .today) (a .container .now) _ (a-kind e) (a-date f) l (small s) (bytes x)) (z .clear .ensures) (le-trans h l) (p .put-report .ensures) (c .wrote .ensures)
 
 pub report-spec : {M : Type 1} → statement M
 report-spec =
@@ -113,6 +118,7 @@ report-spec =
     (λ c κs. search needs)
     (λ c. search needs)
     returns-3
+    (λ c κs. search needs)
     (λ c κs. search needs)
     (λ c κs. search needs)
     (λ c. search needs)
