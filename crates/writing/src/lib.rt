@@ -84,7 +84,8 @@ fn fitted(plan: Plan, room: usize) -> Plan
         Plan::Refuse(f) => Plan::Refuse(f),
         Plan::Takes(n) => {
             let size = 1 + lengths::length_width(n) + n;
-            if container::too_large(size) {
+            let large = container::too_large(size);
+            if large {
                 return Plan::Refuse(verdicts::found(Fault::LargeContainer, 0));
             }
             if room < size {
