@@ -1,5 +1,5 @@
 -- A container read: for each row its value and where it stands, or the first rule that it breaks and its place. `proofs/` shows that values are read
--- exactly where the container conforms (`Promise`), that they stand where it says (`Map`), and that a fault is read exactly where it is the first broken
+-- exactly where the container conforms (`Promise`), that they stand where it says (`Lying`), and that a fault is read exactly where it is the first broken
 -- rule (`Named`).
 use Prim.Native.Nat.{ℕ, _+_}
 use mathlib.Core.Bool.{cond}

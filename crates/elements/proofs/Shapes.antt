@@ -16,15 +16,15 @@ use Rattle.elements.specs.Elements.{shape}
 use Rattle.elements.specs.Map.{mapShape}
 
 module _ (starts ends c : List ℕ) (h : Inside starts ends (length c)) where
-  shown-shape : (n i : ℕ) → shape (rowValues starts ends c n i) ≡ mapShape starts ends n i
+  values-shape : (n i : ℕ) → shape (rowValues starts ends c n i) ≡ mapShape starts ends n i
   unfolding rowValues mapShape
-  shown-shape zero i = refl
-  shown-shape (suc n) i =
+  values-shape zero i = refl
+  values-shape (suc n) i =
       elim (which (eqb (getD ends i 0) 0)) [
-        | inl q ↦ rw (q, shown-shape n (suc i))
-        | inr q ↦ rw (q, part-long c (getD starts i 0) (getD ends i 0 - getD starts i 0) (omega (arith, h .ordered i, h .within i)), shown-shape n (suc i))
+        | inl q ↦ rw (q, values-shape n (suc i))
+        | inr q ↦ rw (q, part-long c (getD starts i 0) (getD ends i 0 - getD starts i 0) (omega (arith, h .ordered i, h .within i)), values-shape n (suc i))
       ]
 
 -- of a container's map
 pub map-shape : (kind : ℕ) (m : Map) (c : List ℕ) → Inside (m .from) (m .to) (length c) → shape (mapValues kind m c) ≡ mapShape (m .from) (m .to) (length (table kind)) 0
-map-shape kind m c h = shown-shape (m .from) (m .to) c h (length (table kind)) 0
+map-shape kind m c h = values-shape (m .from) (m .to) c h (length (table kind)) 0

@@ -1,5 +1,5 @@
 -- Demand 2: conforms exactly when, the first broken rule, there and back. Assumes nothing.
-use Prim.Native.Nat.{ℕ, _≤_}
+use Prim.Native.Nat.{ℕ, _+_, _≤_}
 use mathlib.Core.Logic.{_↔_, inl, inr}
 use mathlib.Core.Path.{_≡_, refl, sym, ap, _∙_}
 use mathlib.Core.Bool.{true}
@@ -35,7 +35,7 @@ use Rattle.sheet.proofs.Bound.{sheet-bound}
 use Rattle.writing.specs.Writing.{writeOutput}
 use Rattle.writing.proofs.Promise.{accepted, read-values, read-write, write-read}
 use Rattle.views.specs.Views.{View, viewed}
-use Rattle.views.proofs.Elements.{Shows, element-view, absent-view, foreign-view}
+use Rattle.views.proofs.Elements.{Shows, element-view, element-place, absent-view, foreign-view}
 use Rattle.prosianek.specs.Calls.{Reads, Writes, Views}
 use Rattle.prosianek.proofs.Decoding.{decoded-once, decoded-0}
 use Rattle.promises.specs.Demands.{Shown, Demand2}
@@ -152,6 +152,8 @@ demand-2 = record {
   read-then-write = there;
   write-then-read = back;
   view-value = λ kind today c b vs h i t o e v q at number place part bytes a. shown kind today c t (element-view kind today c b vs h i e v q) a;
+  view-place = λ kind today c b vs h i t o e v q at number place part bytes a.
+      a .shows .offset-is ∙ ap (λ (n : ℕ). at .1 + n) (element-place kind today c b vs h i e v q);
   view-absent = λ kind today c b vs h i t o e q at number place part bytes a.
       let w = absent-view kind today c b vs h i e q in
       (a .shows .number-is ∙ ap (λ (v : View). v .number) w, a .shows .bytes-are ∙ ap (λ (v : View). v .part .bytes) w);

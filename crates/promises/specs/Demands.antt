@@ -33,6 +33,7 @@ use Rattle.sheet.specs.Sheet.{IsSheet}
 use Rattle.elements.specs.Elements.{shape}
 use Rattle.opens.specs.Open.{agencyOf, systemOf, openOf}
 use Rattle.report.specs.Report.{reportText}
+use Rattle.views.specs.Views.{placeOf}
 use Rattle.prosianek.specs.Calls.{Checks, Reads, Writes, Views, Reports, Decodes, Encodes}
 use Rattle.printout.specs.Printout.{refusedText, printed, Asks}
 use Rattle.capi.specs.Calls.{CChecks, CReads, CWrites, CViews, CReports, CDecodes, CEncodes}
@@ -125,6 +126,10 @@ pub record Demand2 : Type 0 where
   pub view-value : (kind today : ℕ) (c : List ℕ) → Bytes c → (vs : Values) → Conforms kind today vs c → (i t : ℕ) (o : Bool) → rowAt kind i ≡ Holds t o
       → (v : List ℕ) → getD vs i none ≡ some v → (at : ℕ × ℕ) (number place : ℕ) (part : ℕ × ℕ) (bytes : List ℕ) → Views kind today c t at number place part bytes
       → Shown c v at number place part bytes
+  -- "its place and length are fixed": it starts behind the outer tag and length, the elements of the rows before it, and its own tag and length
+  pub view-place : (kind today : ℕ) (c : List ℕ) → Bytes c → (vs : Values) → Conforms kind today vs c → (i t : ℕ) (o : Bool) → rowAt kind i ≡ Holds t o
+      → (v : List ℕ) → getD vs i none ≡ some v
+      → (at : ℕ × ℕ) (number place : ℕ) (part : ℕ × ℕ) (bytes : List ℕ) → Views kind today c t at number place part bytes → part .1 ≡ at .1 + placeOf kind vs i t v
   pub view-absent : (kind today : ℕ) (c : List ℕ) → Bytes c → (vs : Values) → Conforms kind today vs c → (i t : ℕ) (o : Bool) → rowAt kind i ≡ Holds t o
       → getD vs i none ≡ none → (at : ℕ × ℕ) (number place : ℕ) (part : ℕ × ℕ) (bytes : List ℕ) → Views kind today c t at number place part bytes
       → (number ≡ numberOf NoElement) × (bytes ≡ [])

@@ -1,7 +1,7 @@
 -- "A view gives the element's value as a part of the caller's container; its place and length are fixed": the view of each row is the value that the
 -- row has, where it stands; and an element that is absent, or a tag that no row has, gives 6. Assumes nothing.
 use Prim.Native.Nat.{ℕ, zero, suc, _+_, _≤_}
-use mathlib.Core.Path.{_≡_, refl, sym, ap, _∙_}
+use mathlib.Core.Path.{_≡_, refl, sym, ap, ap₂, _∙_}
 use mathlib.Core.Bool.{Bool, true, false, true≢false}
 use mathlib.Core.Logic.{inl, inr}
 use mathlib.Core.Option.{Option, none, some}
@@ -22,7 +22,8 @@ use Rattle.container.proofs.Rows.{Distinct}
 use Rattle.container.proofs.Tags.{distinct}
 use Rattle.container.proofs.Lying.{Stands, stands}
 use Rattle.container.proofs.Promise.{conforms-located}
-use Rattle.views.specs.Views.{View, partOf, nothing, shown, viewed}
+use Rattle.views.specs.Views.{View, partOf, placeOf, nothing, shown, viewed}
+use Rattle.views.proofs.Placing.{placed}
 use Rattle.views.proofs.Ways.{picked, by-parts}
 
 -- ---- the part of a row's tag is that of the row
@@ -110,6 +111,15 @@ module _ (kind today : ℕ) (c : List ℕ) (b : Bytes c) (vs : Values) (h : Conf
         let (ps, l, q) = parts in
         let (p, g, w) = value-part ps i v (rw q e) in
         shows c v (viewed kind today c t) p (picked c ps (stands kind today c b ps l) i p g) w (of-row ∙ ap shown g)
+
+    -- and where it stands
+    pub element-place : (v : List ℕ) → getD vs i none ≡ some v → viewed kind today c t .part .offset ≡ placeOf kind vs i t v
+    element-place v e =
+        let (ps, l, q) = parts in
+        let (p, g, w) = value-part ps i v (rw q e) in
+        ap (λ (x : View). x .part .offset) (of-row ∙ ap shown g)
+        ∙ placed kind today c b ps l i t o row p g
+        ∙ ap₂ (λ (us : Values) (x : List ℕ). placeOf kind us i t x) q w
 
     pub absent-view : getD vs i none ≡ none → viewed kind today c t ≡ absentView
     absent-view e = let (ps, l, q) = parts in of-row ∙ ap shown (no-value-part ps i (rw q e))

@@ -1,3 +1,4 @@
 pub mod Ways
 pub mod Elements
 pub mod Examples
+pub mod Placing

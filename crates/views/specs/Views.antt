@@ -10,6 +10,8 @@ use lib.ListN.{length, take, drop}
 use Rattle.verdicts.specs.Verdicts.{numberOf}
 use Rattle.verdicts.specs.declared.Fault.the-variants.{NoElement}
 use Rattle.kinds.specs.Tables.{Table, table}
+use Rattle.lengths.specs.Length.{lengthBytes}
+use Rattle.container.specs.Container.{Values, long, encode}
 use Rattle.container.specs.Reading.{Parsed, values, fault, Part, located}
 use Rattle.views.specs.declared.Located.{Located}
 
@@ -24,6 +26,12 @@ abbrev pub partOf : Table → List (Option Part) → ℕ → Option Part
 partOf [] ps t = none
 partOf (r ∷ rs) [] t = none
 partOf (r ∷ rs) (o ∷ ps) t = cond (eqb t (r .tag)) o (partOf rs ps t)
+
+-- "its place and length are fixed": of the values of a kind, the value v of row i, which has the tag t, stands behind the outer tag and length, the
+-- elements of the rows before it, and its own tag and length
+abbrev pub placeOf : ℕ → Values → ℕ → ℕ → List ℕ → ℕ
+placeOf kind vs i t v =
+    1 + length (lengthBytes (length (encode (table kind) vs))) + length (encode (take i (table kind)) (take i vs)) + long t + length (lengthBytes (length v))
 
 abbrev pub nothing : Part
 nothing = record { offset = 0; bytes = [] }
