@@ -2,6 +2,7 @@
 use Prim.Native.Nat.{ℕ, zero, suc, _+_, _-_, _<_, _≤_}
 use mathlib.Core.Logic.{inl, inr}
 use mathlib.Core.Path.{_≡_, refl, sym, ap, ap₂, _∙_}
+use mathlib.Core.Bool.{cond}
 use mathlib.Core.Option.{Option, none, some}
 use mathlib.Core.List.{List, [], _∷_, _++_}
 use native.Mathlib.Nat.{add-sub-cancel-left}
@@ -14,10 +15,11 @@ use borrow.Author.Tests.{eqb-true, ne-eqb}
 use Rattle.laws.specs.Bytes.{Bytes}
 use Rattle.laws.specs.Room.{zeros}
 use Rattle.laws.proofs.Bases.{below-drop}
-use Rattle.laws.proofs.Cases.{which}
+use Rattle.laws.proofs.Cases.{test, which}
 use Rattle.lengths.specs.Length.{lengthBytes, readLength, Spelt}
 use Rattle.lengths.proofs.Writing.{some-bytes}
 use Rattle.kinds.specs.Tables.{Entry, Table, table}
+use Rattle.verdicts.specs.Verdicts.{found}
 use Rattle.verdicts.specs.declared.Finding.{Finding}
 use Rattle.verdicts.specs.declared.Outcome.the-variants.{Fine, Broken}
 use Rattle.container.specs.Container.{Values, tagBytes, long, tagHere, outerTag, Allowed, largest}
@@ -30,6 +32,44 @@ use Rattle.container.proofs.Noting.{none-noted, map-outcome}
 use Rattle.container.proofs.Exact.{no-values}
 use Rattle.container.proofs.Promise.{in-outer-values, located-conforms}
 use Rattle.kinds.proofs.Every.{few-rows}
+
+-- ---- what holds of every reading: of none, of a finding, past an absent row and past an element
+
+module _ (today : ℕ) (all : Table) (P : ℕ → Table → List ℕ → Parsed Part → Type 0) where
+  -- past an element: of the rows from r on, where the bytes at the offset begin with its tag
+  abbrev pub Onward : Type 0
+  Onward =
+      (at : ℕ) (r : Entry) (rs : Table) (b : ℕ) (s : List ℕ) → Bytes (b ∷ s) → tagHere all b s ≡ r .tag → (w : ℕ) (v : List ℕ)
+      → element (r .lengths) (r .rule) today (drop (long (r .tag)) (b ∷ s)) ≡ whole w v → (x : Parsed Part)
+      → P (at + long (r .tag) + (w + length v)) rs (drop (long (r .tag) + (w + length v)) (b ∷ s)) x
+      → P at (r ∷ rs) (b ∷ s) (prepend (some (record { offset = at + long (r .tag) + w; bytes = v })) x)
+
+  module _ (ended : (at : ℕ) → P at [] [] (values [])) (stops : (at : ℕ) (rest : Table) (s : List ℕ) (f : Finding) → P at rest s (fault f))
+      (past : (at : ℕ) (r : Entry) (rs : Table) (s : List ℕ) (x : Parsed Part) → P at rs s x → P at (r ∷ rs) s (prepend none x)) (onward : Onward) where
+    skipped : (at : ℕ) (r : Entry) (rs : Table) (s : List ℕ) (x : Parsed Part) (f : Finding) → P at rs s x → P at (r ∷ rs) s (cond (r .optional) (prepend none x) (fault f))
+    skipped at r rs s x f h = test (r .optional) (λ o. P at (r ∷ rs) s (cond o (prepend none x) (fault f))) (λ o. past at r rs s x h) (λ o. stops at (r ∷ rs) s f)
+
+    followed : (at : ℕ) (r : Entry) (rs : Table) (s : List ℕ) (x : Element) (k : ℕ → Parsed Part)
+        → ((w : ℕ) (v : List ℕ) → x ≡ whole w v → P at (r ∷ rs) s (prepend (some (record { offset = at + long (r .tag) + w; bytes = v })) (k (w + length v))))
+        → P at (r ∷ rs) s (follow at (at + long (r .tag)) x k)
+    followed at r rs s (whole w v) k h = h w v refl
+    followed at r rs s (broken f) k h = stops at (r ∷ rs) s (found f at)
+
+    pub parse-by : (rest : Table) (at : ℕ) (s : List ℕ) → Bytes s → P at rest s (parse today all rest at s)
+    parse-by [] at [] b = ended at
+    parse-by [] at (x ∷ s) b = stops at [] (x ∷ s) _
+    parse-by (r ∷ rs) at [] b = skipped at r rs [] (parse today all rs at []) _ (parse-by rs at [] b)
+    parse-by (r ∷ rs) at (x ∷ s) b =
+        elim (which (eqb (tagHere all x s) (r .tag))) [
+          | inl q ↦
+              rw q
+              (followed at r rs (x ∷ s) (element (r .lengths) (r .rule) today (drop (long (r .tag)) (x ∷ s))) (λ n. parse today all rs (at + long (r .tag) + n) (drop (long (r .tag) + n) (x ∷ s)))
+              (λ w v is.
+              let n = w + length v in
+              onward at r rs x s b (eqb-true _ _ q) w v is (parse today all rs (at + long (r .tag) + n) (drop (long (r .tag) + n) (x ∷ s)))
+              (parse-by rs (at + long (r .tag) + n) (drop (long (r .tag) + n) (x ∷ s)) (below-drop 256 (long (r .tag) + n) (x ∷ s) b))))
+          | inr q ↦ rw q (skipped at r rs (x ∷ s) (parse today all rs at (x ∷ s)) _ (parse-by rs at (x ∷ s) b))
+        ]
 
 -- ---- each part stands in the bytes
 
@@ -57,11 +97,6 @@ module _ (c : List ℕ) where
   present q (values ps) h l = (h, l)
   present q (fault f) h l = tt
 
-  followed : (at start : ℕ) (x : Element) (k : ℕ → Parsed Part)
-      → ((w : ℕ) (v : List ℕ) → x ≡ whole w v → Stands (record { offset = start + w; bytes = v }) × Sit (k (w + length v))) → Sit (follow at start x k)
-  followed at start (whole w v) k h = let s = h w v refl in present _ (k (w + length v)) (s .0) (s .1)
-  followed at start (broken f) k h = tt
-
   module _ (today : ℕ) (all : Table) where
     element-stands : (r : Entry) (at x : ℕ) (s : List ℕ) → Bytes (x ∷ s) → x ∷ s ≡ drop at c → tagHere all x s ≡ r .tag → (w : ℕ) (v : List ℕ)
         → element (r .lengths) (r .rule) today (drop (long (r .tag)) (x ∷ s)) ≡ whole w v → Stands (record { offset = at + long (r .tag) + w; bytes = v })
@@ -82,34 +117,15 @@ module _ (c : List ℕ) where
           bytes = ap (take (length v)) d ∙ take-append-seam v rest;
         }
 
+    onward : (t at n : ℕ) (s : List ℕ) → s ≡ drop at c → drop (long t + n) s ≡ drop (at + long t + n) c
+    onward t at n s e =
+        let z : at + (long t + n) ≡ at + long t + n = omega arith in
+        ap (drop (long t + n)) e ∙ drop-drop (long t + n) at c ∙ rw z
+
     parse-sits : (rest : Table) (at : ℕ) (s : List ℕ) → Bytes s → s ≡ drop at c → Sit (parse today all rest at s)
-    parse-sits [] at [] b e = tt
-    parse-sits [] at (x ∷ s) b e = tt
-    parse-sits (r ∷ rs) at [] b e =
-        elim (which (r .optional)) [
-          | inl o ↦ rw o (absent (parse today all rs at []) (parse-sits rs at [] b e))
-          | inr o ↦ rw o tt
-        ]
-    parse-sits (r ∷ rs) at (x ∷ s) b e =
-        elim (which (eqb (tagHere all x s) (r .tag))) [
-          | inl q ↦
-              rw q
-              (followed at (at + long (r .tag)) (element (r .lengths) (r .rule) today (drop (long (r .tag)) (x ∷ s))) (λ n. parse today all rs (at + long (r .tag) + n) (drop (long (r .tag) + n) (x ∷ s)))
-              (λ w v is. (
-                element-stands r at x s b e (eqb-true _ _ q) w v is,
-                parse-sits rs (at + long (r .tag) + (w + length v)) (drop (long (r .tag) + (w + length v)) (x ∷ s)) (below-drop 256 (long (r .tag) + (w + length v)) (x ∷ s) b) (onward (r .tag) at (w + length v) x s e),
-              )))
-          | inr q ↦
-              elim (which (r .optional)) [
-                | inl o ↦ rw (q, o) (absent (parse today all rs at (x ∷ s)) (parse-sits rs at (x ∷ s) b e))
-                | inr o ↦ rw (q, o) tt
-              ]
-        ]
-      where
-        onward : (t at n x : ℕ) (s : List ℕ) → x ∷ s ≡ drop at c → drop (long t + n) (x ∷ s) ≡ drop (at + long t + n) c
-        onward t at n x s e =
-            let z : at + (long t + n) ≡ at + long t + n = omega arith in
-            ap (drop (long t + n)) e ∙ drop-drop (long t + n) at c ∙ rw z
+    parse-sits =
+        parse-by today all (λ at rest s x. s ≡ drop at c → Sit x) (λ at e. tt) (λ at rest s f e. tt) (λ at r rs s x h e. absent x (h e))
+        (λ at r rs b s bb q w v is x h e. present _ x (element-stands r at b s bb e q w v is) (h (onward (r .tag) at (w + length v) (b ∷ s) e)))
 
 outer-sits : (kind today : ℕ) (c : List ℕ) → Bytes c → (ps : List (Option Part)) → outer kind today c ≡ values ps → All c ps
 outer-sits kind today [] b ps e = absurd (no-values e)

@@ -3,7 +3,7 @@
 use Prim.Native.Nat.{ℕ, zero, suc, _+_, _<_}
 use mathlib.Core.Logic.{inl, inr}
 use mathlib.Core.Path.{_≡_, refl, sym, ap, _∙_}
-use mathlib.Core.Bool.{Bool, cond}
+use mathlib.Core.Bool.{Bool}
 use mathlib.Core.Option.{Option, none, some}
 use mathlib.Core.List.{List, [], _∷_, _++_}
 use native.Mathlib.Omega.{arith}
@@ -11,18 +11,16 @@ use lib.Dec.{eqb}
 use lib.ListN.{length, take, drop, getD, length-append}
 use Rattle.laws.specs.Bytes.{Bytes}
 use Rattle.laws.proofs.Bases.{below-drop}
-use Rattle.laws.proofs.Cases.{test, which}
+use Rattle.laws.proofs.Cases.{which}
 use Rattle.lengths.specs.Length.{lengthBytes, readLength, Spelt}
 use Rattle.lengths.proofs.Spellings.{reads-back}
 use Rattle.kinds.specs.Tables.{Entry, Table, table, first, rowAt}
 use Rattle.kinds.specs.declared.Slot.the-variants.{Holds}
-use Rattle.verdicts.specs.Verdicts.{found}
-use Rattle.verdicts.specs.declared.Finding.{Finding}
-use Rattle.verdicts.specs.declared.Fault.the-variants.{MissingRow}
-use Rattle.container.specs.Container.{tagBytes, long, tagHere, encode, outerTag}
-use Rattle.container.specs.Reading.{Parsed, values, fault, Part, valuesOf, prepend, Element, whole, broken, element, follow, parse, inner, outer, located}
+use Rattle.container.specs.Container.{tagBytes, long, encode, outerTag}
+use Rattle.container.specs.Reading.{Parsed, values, fault, Part, valuesOf, prepend, parse, inner, outer, located}
 use Rattle.container.proofs.One.{element-is}
 use Rattle.container.proofs.Exact.{no-values}
+use Rattle.container.proofs.Lying.{parse-by}
 use Rattle.container.proofs.Promise.{in-outer-values, located-conforms}
 use Rattle.views.specs.Views.{placeOf}
 use Rattle.views.proofs.Ways.{no-part}
@@ -42,9 +40,6 @@ absent at r rs (values ps) h = go
     go zero p e t o q = absurd (no-part e)
     go (suc i) p e t o q = h i p e t o q
 
-skipped : (at : ℕ) (r : Entry) (rs : Table) (x : Parsed Part) (f : Finding) → Placed at rs x → Placed at (r ∷ rs) (cond (r .optional) (prepend none x) (fault f))
-skipped at r rs x f h = test (r .optional) (λ o. Placed at (r ∷ rs) (cond o (prepend none x) (fault f))) (λ o. absent at r rs x h) (λ o. tt)
-
 present : (at : ℕ) (r : Entry) (rs : Table) (w : ℕ) (v : List ℕ) (x : Parsed Part) → w ≡ length (lengthBytes (length v)) → Placed (at + long (r .tag) + (w + length v)) rs x
     → Placed at (r ∷ rs) (prepend (some (record { offset = at + long (r .tag) + w; bytes = v })) x)
 present at r rs w v (fault f) l h = tt
@@ -61,32 +56,15 @@ present at r rs w v (values ps) l h = go
         let m = length-append (lengthBytes (length v)) (v ++ rest) in
         omega (arith, h i p e t o q, l, k, m, length-append v rest)
 
-followed : (at : ℕ) (r : Entry) (rs : Table) (x : Element) (k : ℕ → Parsed Part)
-    → ((w : ℕ) (v : List ℕ) → x ≡ whole w v → (w ≡ length (lengthBytes (length v))) × Placed (at + long (r .tag) + (w + length v)) rs (k (w + length v)))
-    → Placed at (r ∷ rs) (follow at (at + long (r .tag)) x k)
-followed at r rs (whole w v) k h = let s = h w v refl in present at r rs w v (k (w + length v)) (s .0) (s .1)
-followed at r rs (broken f) k h = tt
+no-parts : (i : ℕ) {p : Part} → getD [] i none ≡ some p → ⊥
+no-parts zero e = no-part e
+no-parts (suc i) e = no-part e
 
-module _ (today : ℕ) (all : Table) where
-  parse-placed : (rest : Table) (at : ℕ) (s : List ℕ) → Bytes s → Placed at rest (parse today all rest at s)
-  parse-placed [] at [] b = λ i p e t o q. absurd (no-parts i e)
-    where
-      no-parts : (i : ℕ) {p : Part} → getD [] i none ≡ some p → ⊥
-      no-parts zero e = no-part e
-      no-parts (suc i) e = no-part e
-  parse-placed [] at (x ∷ s) b = tt
-  parse-placed (r ∷ rs) at [] b = skipped at r rs (parse today all rs at []) (found MissingRow at) (parse-placed rs at [] b)
-  parse-placed (r ∷ rs) at (x ∷ s) b =
-      elim (which (eqb (tagHere all x s) (r .tag))) [
-        | inl q ↦
-            rw q
-            (followed at r rs (element (r .lengths) (r .rule) today (drop (long (r .tag)) (x ∷ s))) (λ n. parse today all rs (at + long (r .tag) + n) (drop (long (r .tag) + n) (x ∷ s)))
-            (λ w v is. (
-              element-is (r .lengths) (r .rule) today (drop (long (r .tag)) (x ∷ s)) (below-drop 256 (long (r .tag)) (x ∷ s) b) w v is .1,
-              parse-placed rs (at + long (r .tag) + (w + length v)) (drop (long (r .tag) + (w + length v)) (x ∷ s)) (below-drop 256 (long (r .tag) + (w + length v)) (x ∷ s) b),
-            )))
-        | inr q ↦ rw q (skipped at r rs (parse today all rs at (x ∷ s)) _ (parse-placed rs at (x ∷ s) b))
-      ]
+parse-placed : (today : ℕ) (all rest : Table) (at : ℕ) (s : List ℕ) → Bytes s → Placed at rest (parse today all rest at s)
+parse-placed today all =
+    parse-by today all (λ at rest s x. Placed at rest x) (λ at i p e t o q. absurd (no-parts i e)) (λ at rest s f. tt) (λ at r rs s x h. absent at r rs x h)
+    (λ at r rs b s bb q w v is x h.
+    present at r rs w v x (element-is (r .lengths) (r .rule) today (drop (long (r .tag)) (b ∷ s)) (below-drop 256 (long (r .tag)) (b ∷ s) bb) w v is .1) h)
 
 -- what was read of the elements is placed behind the outer tag and length
 rows : (at : ℕ) (rest : Table) (x : Parsed Part) (ps : List (Option Part)) → x ≡ values ps → Placed at rest x → Placed at rest (values ps)
