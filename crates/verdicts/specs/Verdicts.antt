@@ -1,7 +1,7 @@
--- 01, "Numbers": the number of each fault; and the verdict, a number and a place.
+-- 01, "Numbers", and request 2026-04: the number of each fault; and the verdict, a number and a place.
 use Prim.Native.Nat.{ℕ}
 use Rattle.verdicts.specs.declared.Fault.{Fault}
-use Rattle.verdicts.specs.declared.Fault.the-variants.{UnknownKind, NoDate, SmallRoom, LargeContainer, TornSheet, NoElement, LongNumber, LongReport, OuterTag, LengthForm, Overrun, UnknownTag, TagOrder, MissingRow, ElementLength, BadFascn, BadUuid, BadDate, BadFixed, BadHeader, BadMinutiae, BadText}
+use Rattle.verdicts.specs.declared.Fault.the-variants.{UnknownKind, NoDate, SmallRoom, LargeContainer, TornSheet, NoElement, LongNumber, LongReport, OuterTag, LengthForm, Overrun, UnknownTag, TagOrder, MissingRow, ElementLength, BadFascn, BadUuid, BadDate, BadFixed, BadHeader, BadMinutiae, BadText, BadDer, TooDeep}
 use Rattle.verdicts.specs.declared.Finding.{Finding}
 use Rattle.verdicts.specs.declared.Outcome.{Outcome}
 use Rattle.verdicts.specs.declared.Outcome.the-variants.{Fine, Broken}
@@ -12,7 +12,7 @@ use Rattle.laws.specs.Format.{Judged, kept, breaks}
 use mathlib.Core.Bool.{Bool, cond}
 
 abbrev pub numberOf : Fault → ℕ
-numberOf UnknownKind = 1  -- kind not 1 to 7
+numberOf UnknownKind = 1  -- kind not 1 to 11
 numberOf NoDate = 2  -- today is no date
 numberOf SmallRoom = 3  -- room too small
 numberOf LargeContainer = 4  -- container over 32,768 bytes, given or to be written
@@ -34,6 +34,8 @@ numberOf BadFixed = 20  -- other fixed value or policy
 numberOf BadHeader = 21  -- CBEFF header
 numberOf BadMinutiae = 22  -- minutiae
 numberOf BadText = 23  -- text byte
+numberOf BadDer = 24  -- DER item
+numberOf TooDeep = 25  -- DER item too deep
 
 -- a fault and its place
 abbrev pub found : Fault → ℕ → Finding

@@ -1,4 +1,4 @@
-// The faults that 01 numbers, and the verdict: a number and its place.
+// The faults that 01 and the requests number, and the verdict: a number and its place.
 ghost use mathlib.Core.Path.{_≡_};
 ghost use Rattle.verdicts.specs.Verdicts.{numberOf, found, verdictOf};
 ghost use Rattle.verdicts.specs.Output.{refusal, doneOf};
@@ -27,6 +27,8 @@ pub enum Fault {
     BadHeader,
     BadMinutiae,
     BadText,
+    BadDer,
+    TooDeep,
 }
 
 // What a value's rule answers.
@@ -87,6 +89,8 @@ pub fn number_of(f: Fault) -> u64
         Fault::BadHeader => 21,
         Fault::BadMinutiae => 22,
         Fault::BadText => 23,
+        Fault::BadDer => 24,
+        Fault::TooDeep => 25,
     }
 }
 

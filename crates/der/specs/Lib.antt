@@ -1,0 +1,4 @@
+pub mod Length
+pub mod Der
+pub mod Walk
+pub mod Faults

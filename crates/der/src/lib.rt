@@ -1,0 +1,164 @@
+// Request 2026-04: whether bytes are one DER item, to a depth that is a parameter, in one pass over the items.
+ghost use mathlib.Core.Path.{_≡_};
+ghost use Prim.Native.Nat.{_+_, _-_, _<_, _≤_};
+ghost use lib.ListN.{length, take, drop, getD};
+ghost use Rattle.der.specs.Walk.{headOf, items, judged, tally, certificate, depthFor};
+use numbers::index;
+use numbers::number;
+use verdicts::Fault;
+use verdicts::Ruling;
+
+// What stands where an item is due: how many bytes the item takes and, of a constructed one, how many stand before its parts.
+enum Head {
+    Broken,
+    Leaf(usize),
+    Open(usize, usize),
+}
+
+// What a walk answers: all is good, with the number of the outermost's parts; or the first fault, 24 or 25.
+pub enum Walked {
+    Whole(usize),
+    Bad,
+    Deep,
+}
+
+// The same where the length takes more than one byte: its count stands in the first of them, without the bit 80 hex. A number of
+// more than eight bytes is longer than any slice.
+fn long_front(s: &[u8]) -> Head
+    ensures { λ r. ⌜ r ≡ headOf (now (s .entry)) ⌝ }
+{
+    if s.len() < 3 {
+        return Head::Broken;
+    }
+    TODO
+}
+
+// The item at the front of what its surroundings still have: its tag, its length, and that it fits.
+fn front(s: &[u8]) -> Head
+    ensures { λ r. ⌜ r ≡ headOf (now (s .entry)) ⌝ }
+{
+    if s.len() < 2 {
+        return Head::Broken;
+    }
+    let n = index(s[1]);
+    if 128 <= n {
+        return long_front(s);
+    }
+    let tag = index(s[0]);
+    if 31 <= tag % 32 {
+        return Head::Broken;
+    }
+    if s.len() - 2 < n {
+        return Head::Broken;
+    }
+    if tag / 32 % 2 == 1 {
+        return Head::Open(2, 2 + n);
+    }
+    Head::Leaf(2 + n)
+}
+
+// One part more, where the open item is the outermost.
+fn counted(count: usize, level: usize) -> usize
+    requires { ⌜ count < 18446744073709551615 ⌝ }
+    ensures { λ r. ⌜ r ≡ tally count level ⌝ }
+{
+    if level == 0 {
+        return count + 1;
+    }
+    count
+}
+
+// The parts that fill v from `start` to `stop`, one after the other; `depth` levels may be opened.
+fn parts(v: &[u8], start: usize, stop: usize, depth: usize) -> Walked
+    requires { ⌜ (start ≤ stop) × (stop ≤ length (now v)) × (depth ≤ 16) ⌝ }
+    ensures { λ r. ⌜ r ≡ items depth (take (stop - start) (drop start (now (v .entry)))) ⌝ }
+{
+    let mut ends: [usize; 16] = [0; 16];
+    let mut level: usize = 0;
+    let mut count: usize = 0;
+    let mut at = start;
+    let mut end = stop;
+    loop {
+        if at == end {
+            if level == 0 {
+                return Walked::Whole(count);
+            }
+            level -= 1;
+            end = ends[level];
+            continue;
+        }
+        if level == depth {
+            return Walked::Deep;
+        }
+        match front(&v[at..end]) {
+            Head::Broken => return Walked::Bad,
+            Head::Leaf(size) => {
+                count = counted(count, level);
+                at += size;
+            }
+            Head::Open(first, size) => {
+                count = counted(count, level);
+                ends[level] = end;
+                level += 1;
+                end = at + size;
+                at += first;
+            }
+        }
+    }
+}
+
+// Whether v is one item, at most `depth` levels deep, and how many parts it has.
+pub fn item(v: &[u8], depth: usize) -> Walked
+    ensures { λ r. ⌜ r ≡ judged (depthFor depth) (now (v .entry)) ⌝ }
+{
+    if v.len() == 0 {
+        return Walked::Bad;
+    }
+    if depth == 0 {
+        return Walked::Deep;
+    }
+    match front(v) {
+        Head::Broken => Walked::Bad,
+        Head::Leaf(size) => {
+            if size != v.len() {
+                return Walked::Bad;
+            }
+            Walked::Whole(0)
+        }
+        Head::Open(first, size) => match parts(v, first, size, depth - 1) {
+            Walked::Bad => Walked::Bad,
+            Walked::Deep => Walked::Deep,
+            Walked::Whole(n) => {
+                if size != v.len() {
+                    return Walked::Bad;
+                }
+                Walked::Whole(n)
+            }
+        },
+    }
+}
+
+fn first_byte(v: &[u8]) -> usize
+    ensures { λ r. ⌜ r ≡ getD (now (v .entry)) 0 0 ⌝ }
+{
+    if v.len() == 0 {
+        return 0;
+    }
+    index(v[0])
+}
+
+// "the outermost a SEQUENCE of three parts, judged when its last part has been read"
+pub fn judge(v: &[u8], depth: usize) -> Ruling
+    ensures { λ r. ⌜ r ≡ certificate (depthFor depth) (now (v .entry)) ⌝ }
+{
+    match item(v, depth) {
+        Walked::Bad => Ruling::Breaks(Fault::BadDer),
+        Walked::Deep => Ruling::Breaks(Fault::TooDeep),
+        Walked::Whole(n) => {
+            if (first_byte(v) == 0x30) & (n == 3) {
+                return Ruling::Kept;
+            }
+            Ruling::Breaks(Fault::BadDer)
+        }
+    }
+}
