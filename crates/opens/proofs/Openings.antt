@@ -13,7 +13,7 @@ use Rattle.laws.specs.Tests.{allBelow}
 use Rattle.laws.proofs.Cases.{and-true, along}
 use Rattle.kinds.specs.Tables.{Lengths, Entry, Table, table, Permitted}
 use Rattle.kinds.specs.declared.ValueRule.{ValueRule}
-use Rattle.kinds.specs.declared.ValueRule.the-variants.{Free, Fascn, Uuid, Expiry, Model, Application, Policy, Text, Date, Fingers, Face}
+use Rattle.kinds.specs.declared.ValueRule.the-variants.{Free, Fascn, Uuid, Expiry, Model, Application, Policy, Text, Date, Fingers, Face, Certificate, CertInfo}
 use Rattle.rules.specs.Rules.{Keeps}
 use Rattle.container.specs.Container.{Values, Allowed}
 use Rattle.opens.specs.Open.{Opening, opensNone, opensModel, opensCard, opensPolicy, opensIssuer, opensHolder, openings, taggedValue}
@@ -22,7 +22,7 @@ use Rattle.opens.proofs.Valued.{taggedRow, value-fits}
 -- ---- two rules are told apart by their places in a list
 
 rules : List ValueRule
-rules = Free ∷ Fascn ∷ Uuid ∷ Expiry ∷ Model ∷ Application ∷ Policy ∷ Text ∷ Date ∷ Fingers ∷ Face ∷ []
+rules = Free ∷ Fascn ∷ Uuid ∷ Expiry ∷ Model ∷ Application ∷ Policy ∷ Text ∷ Date ∷ Fingers ∷ Face ∷ Certificate ∷ CertInfo ∷ []
 
 abbrev place : ValueRule → ℕ
 place Free = 0
@@ -36,6 +36,8 @@ place Text = 7
 place Date = 8
 place Fingers = 9
 place Face = 10
+place Certificate = 11
+place CertInfo = 12
 
 placed : (r : ValueRule) → getD rules (place r) Free ≡ r
 unfolding rules
@@ -52,6 +54,8 @@ placed r =
       | Date ↦ refl
       | Fingers ↦ refl
       | Face ↦ refl
+      | Certificate ↦ refl
+      | CertInfo ↦ refl
     ]
 
 same-rule : (r s : ValueRule) → eqb (place r) (place s) ≡ true → r ≡ s
