@@ -1,9 +1,10 @@
 -- An arm of a match answers by its two numbers, and a default by the numbers that it has passed. Assumes nothing.
 use Prim.Native.Nat.{ℕ, zero, suc, _+_, _-_, _≤_, _<_}
 use mathlib.Core.Path.{_≡_, refl, sym, ap, ap₂, _∙_}
-use mathlib.Core.Bool.{cond}
+use mathlib.Core.Bool.{Bool, false, cond, _||_}
 use mathlib.Core.List.{List, [], _∷_}
 use native.Mathlib.Omega.{arith}
+use lib.Dec.{eqb}
 use lib.ListN.{length, getD, take, drop, drop-of-length-le, List·getD-eq-default}
 use borrow.Author.Tests.{ne-eqb}
 use Rattle.kinds.specs.Tables.{Table, certificate, tables, table, find, rowOf, first, rowAt, lastOf, lastRow}
@@ -39,6 +40,22 @@ none-listed l d zero h = refl
 none-listed l d (suc n) h =
     let g = past l 1 (suc n) Unit (λ u. omega arith) h in
     sym (List·getD-eq-default l d {n = n} (omega arith))
+
+-- ---- by a list of numbers
+
+abbrev pub among : List ℕ → ℕ → Bool
+among [] n = false
+among (k ∷ ks) n = eqb n k || among ks n
+
+passed : (ks : List ℕ) (n : ℕ) (A : Type 0) → Others ks n A → A
+passed [] n A h = h
+passed (k ∷ ks) n A h = passed ks n (A × (n ≡ k → ⊥)) h .0
+
+pub none-among : (ks : List ℕ) (n : ℕ) (A : Type 0) → Others ks n A → among ks n ≡ false
+none-among [] n A h = refl
+none-among (k ∷ ks) n A h =
+    let B : Type 0 = A × (n ≡ k → ⊥) in
+    rw (ne-eqb n k (passed ks n B h .1)) (none-among ks n B h)
 
 -- ---- a kind's table
 

@@ -11,6 +11,7 @@ use lib.ListN.{length, getD}
 use borrow.Author.Tests.{eqb-true, not-true}
 use Rattle.laws.specs.Tests.{allBelow}
 use Rattle.laws.proofs.Cases.{and-true, along}
+use Rattle.kinds.proofs.Arms.{Others, among, none-among}
 use Rattle.kinds.specs.Tables.{Lengths, Entry, Table, table, Permitted}
 use Rattle.kinds.specs.declared.ValueRule.{ValueRule}
 use Rattle.kinds.specs.declared.ValueRule.the-variants.{Free, Fascn, Uuid, Expiry, Model, Application, Policy, Text, Date, Fingers, Face, Certificate, CertInfo}
@@ -109,3 +110,31 @@ sound (opensHolder tag) rows = ruledBy Fingers (taggedRow rows tag) || ruledBy F
 pub sound-kind : (kind : ℕ) → sound (opening kind) (table kind) ≡ true
 unfolding allBelow
 sound-kind kind = along (opensNone ∷ openings) opensNone (λ k o. sound o (table k)) refl (λ k. refl) kind
+
+-- ---- the kinds of which nothing is open
+
+abbrev isNone : Opening → Bool
+isNone opensNone = true
+isNone opensModel = false
+isNone (opensCard fascn expiry) = false
+isNone (opensPolicy tag) = false
+isNone (opensIssuer tag) = false
+isNone (opensHolder tag) = false
+
+none-is : (o : Opening) (b : Bool) → b ≡ false → (isNone o || b) ≡ true → opensNone ≡ o
+none-is opensNone b f e = refl
+none-is opensModel b f e = absurd (true≢false (sym e ∙ f))
+none-is (opensCard fascn expiry) b f e = absurd (true≢false (sym e ∙ f))
+none-is (opensPolicy tag) b f e = absurd (true≢false (sym e ∙ f))
+none-is (opensIssuer tag) b f e = absurd (true≢false (sym e ∙ f))
+none-is (opensHolder tag) b f e = absurd (true≢false (sym e ∙ f))
+
+-- all but these
+abbrev somethingOpen : List ℕ
+somethingOpen = 1 ∷ 2 ∷ 3 ∷ 4 ∷ 6 ∷ 7 ∷ []
+
+pub nothing-open : (kind : ℕ) → Others somethingOpen kind Unit → opensNone ≡ opening kind
+unfolding allBelow
+nothing-open kind h =
+    none-is (opening kind) (among somethingOpen kind) (none-among somethingOpen kind Unit h)
+    (along (opensNone ∷ openings) opensNone (λ k o. isNone o || among somethingOpen k) refl (λ k. refl) kind)
