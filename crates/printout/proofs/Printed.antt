@@ -4,7 +4,7 @@
 --     kind-refused, date-refused    for every other input it is a refusal
 use Prim.Native.Nat.{ℕ, _+_, _-_, _*_, _/_, _%_, _≤_, _<_}
 use mathlib.Core.Logic.{inl, inr}
-use mathlib.Core.Path.{_≡_, sym, ap, ap₂, _∙_}
+use mathlib.Core.Path.{_≡_, refl, sym, ap, ap₂, _∙_}
 use mathlib.Core.Bool.{true, false, _&&_, true≢false}
 use mathlib.Core.List.{List, [], _∷_, _++_}
 use native.Mathlib.Omega.{arith}
@@ -14,7 +14,7 @@ use lib.Seq.{take-all, take-at, drop-at, take-append-add, length-take-le, take-t
 use borrow.Author.Tests.{leb-true, leb-false, le-leb, lt-leb}
 use Rattle.laws.specs.Digits.{digits}
 use Rattle.laws.proofs.Cases.{which, not-so, and-is, and-true}
-use Rattle.texts.specs.Text.{digit}
+use Rattle.texts.specs.Text.{ascii, digit}
 use Rattle.texts.proofs.Bounds.{decimal-length}
 use Rattle.dates.specs.Date.{IsTextOf, IsTextDate, isDigit, dateOf}
 use Rattle.dates.specs.declared.Date.{Date}
@@ -59,6 +59,9 @@ date-long : {s : List ℕ} {n : ℕ} → IsTextOf s n → length s ≡ 8
 unfolding digits
 date-long (y, m, d, x, e, f) = ap length e
 
+as-written : (kindText 2 ≡ ascii "02") × (kindText 11 ≡ ascii "11")
+as-written = (refl, refl)
+
 -- a kind is below 100
 two-places : (kind : ℕ) → IsKind kind → kind < 100
 two-places kind k = omega (arith, k .1)
@@ -86,16 +89,18 @@ text-kind (a ∷ b ∷ s) k =
       | inr q ↦ absurd (omega (arith, (rw q at k) .0))
     ]
 
--- so none is read off what is not the digits of a kind
+-- no two numbers have the same
+same-digits : (k l : ℕ) → kindText k ≡ kindText l → k ≡ l
+same-digits k l e =
+    let p : digit (k / 10) ≡ digit (l / 10) = cc in
+    let q : digit (k % 10) ≡ digit (l % 10) = cc in
+    omega arith
+
+-- so no kind is read off those of a number that is none
 no-kind : (kind : ℕ) (s : List ℕ) → isKind kind ≡ false → isKind (kindOf (kindText kind ++ s)) ≡ false
 no-kind kind s n =
     let m = kindOf (kindText kind ++ s) in
-    not-so (isKind m) (λ t.
-    let e = text-kind (kindText kind ++ s) (kind-exact m .0 t) in
-    let p : digit (kind / 10) ≡ digit (m / 10) = cc in
-    let q : digit (kind % 10) ≡ digit (m % 10) = cc in
-    let r : kind ≡ m = omega arith in
-    true≢false (sym t ∙ ap isKind (sym r) ∙ n))
+    not-so (isKind m) (λ t. true≢false (sym t ∙ ap isKind (sym (same-digits kind m (text-kind (kindText kind ++ s) (kind-exact m .0 t)))) ∙ n))
 
 asked-output : {s : List ℕ} {kind today : ℕ} {c : List ℕ} → Asks s kind today c → (room : ℕ) → deskOutput s room ≡ reportOutput kind today c room
 unfolding deskOutput
@@ -133,11 +138,10 @@ printed-asked {s} {kind} {today} {c} a = ap shown (asked-output (cut-asks a) rep
 
 -- the first two bytes are not those of a kind, or not both there
 pub kind-refused : (s : List ℕ) → ((kind : ℕ) → IsKind kind → take 2 s ≡ kindText kind → ⊥) → printed s ≡ refusedText 1
-kind-refused s none =
-    let r = take inputSize s in
-    sym (bad-kind r reportRoom (not-so (isKind (kindOf r)) (λ k.
-    let i = kind-exact (kindOf r) .0 k in
-    none (kindOf r) i (sym (take-take 2 inputSize s (omega arith)) ∙ text-kind r i))))
+kind-refused s none = sym (bad-kind (take inputSize s) reportRoom (not-so (isKind (kindOf (take inputSize s))) (λ k. go (kind-exact _ .0 k))))
+  where
+    go : IsKind (kindOf (take inputSize s)) → ⊥
+    go i = none _ i (sym (take-take 2 inputSize s (omega arith)) ∙ text-kind (take inputSize s) i)
 
 -- the eight bytes after them are no date, or not all there
 pub date-refused : (s : List ℕ) (kind : ℕ) → IsKind kind → take 2 s ≡ kindText kind → (IsTextDate (take 8 (drop 2 s)) → ⊥) → printed s ≡ refusedText 2
