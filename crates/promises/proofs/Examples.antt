@@ -26,6 +26,8 @@ use Rattle.dates.proofs.Dates.{date-exact}
 use Rattle.dates.proofs.Windows.{window-exact}
 use Rattle.plain.specs.Plain.{isUuid, isPolicy, isText, ended, isCreator}
 use Rattle.minutiae.specs.Judged.{pointHolds, pointsHold, viewHead, extent, recordHead, isMinutiae}
+use Rattle.der.specs.Length.{readLength as readDer}
+use Rattle.der.specs.Walk.{headOf, items, judged as walked, certificate}
 use Rattle.rules.specs.Rules.{ruleOf}
 use Rattle.container.specs.Reading.{element, located, parsed, outcome, verdict}
 use Rattle.container.proofs.Promise.{exactly-when}
@@ -100,7 +102,7 @@ all-so [] t = tt
 all-so (e ∷ es) t = let c = and-true (tested e) (allTested es) t in (so e (c .0), all-so es (c .1))
 
 all-tested : allTested examples ≡ true
-unfolding allTested tested areBytes isNone examples ones digits exclusive values checked characters encoded valuesOf framed decoded isFascn lengthBytes readLength daysIn exists isDate dateOf isMoment isUuid isPolicy isText ended isCreator pointHolds pointsHold viewHead extent recordHead isMinutiae ruleOf element located parsed outcome
+unfolding allTested tested areBytes isNone examples ones digits exclusive values checked characters encoded valuesOf framed decoded isFascn lengthBytes readLength daysIn exists isDate dateOf isMoment isUuid isPolicy isText ended isCreator pointHolds pointsHold viewHead extent recordHead isMinutiae readDer headOf items walked certificate ruleOf element located parsed outcome
 all-tested = refl
 
 pub examples-hold : All examples
