@@ -1,12 +1,13 @@
 -- The length's spelling: what is written is read back whatever follows, and what is read was written so. Assumes nothing.
-use Prim.Native.Nat.{ℕ, zero, suc, _+_, _-_, _*_, _/_, _%_, _^_, _≤_, _<_}
-use mathlib.Core.Path.{_≡_, refl, sym, _∙_}
+use Prim.Native.Nat.{ℕ, zero, suc, _+_, _-_, _*_, _/_, _%_, _≤_, _<_}
+use mathlib.Core.Path.{_≡_, refl, sym, ap, _∙_}
 use mathlib.Core.Bool.{Bool, true, cond, _&&_}
 use mathlib.Core.Logic.{inl, inr}
 use mathlib.Core.Option.{Option, none, some}
 use mathlib.Core.List.{List, [], _∷_, _++_, append-assoc}
 use native.Mathlib.Omega.{arith}
-use native.Mathlib.Nat.{pow-zero, pow-suc, one-le-pow, pow-le-pow-right, le-refl, le-trans}
+use native.Mathlib.Decide.{ℕ-discrete}
+use native.Mathlib.Nat.{le-refl}
 use native.Mathlib.Numerals.{add-one}
 use lib.Dec.{ltb, leb, eqb}
 use lib.ListN.{length, getD, take, length-append}
@@ -48,30 +49,41 @@ front-grown (suc most) n r h g =
       | inr e ↦ let f = ltb-false 0 (n / 256) e in let z : n / 256 ≡ 0 = omega arith in rw (z, none-grown most) (omega arith)
     ])
 
--- ---- bytes with no zero in front
+-- ---- the number of some bytes, and of one more
 
 a-byte : (s : List ℕ) (k : ℕ) → Bytes s → getD s k 0 < 256
 a-byte [] k b = omega arith
 a-byte (x ∷ s) zero b = b .0
 a-byte (x ∷ s) (suc k) b = a-byte s k (b .1)
 
-module _ (s : List ℕ) (g : 0 < getD s 0 0) where
-  next : (k : ℕ) → k < length s → value 256 (take (suc k) s) ≡ value 256 (take k s) * 256 + getD s k 0
-  next k h = rw (← add-one k) (read-next 256 k s h)
+next : (s : List ℕ) (k : ℕ) → k < length s → value 256 (take (suc k) s) ≡ value 256 (take k s) * 256 + getD s k 0
+next s k h = rw (← add-one k) (read-next 256 k s h)
 
-  at-least : (k : ℕ) → k < length s → 256 ^ k ≤ value 256 (take (suc k) s)
-  at-least zero h = rw (next 0 h, pow-zero) (omega arith)
-  at-least (suc k) h = rw (next (suc k) h, pow-suc) (omega (arith, at-least k (omega arith)))
+-- each byte more makes the number 256 times as large at least
+pub larger : (s : List ℕ) (i k : ℕ) → i < k → k ≤ length s → value 256 (take i s) * 256 ≤ value 256 (take k s)
+larger s i zero h g = absurd (omega arith)
+larger s i (suc k) h g =
+    elim (ℕ-discrete i k) [
+      | yes e ↦ rw e (omega (arith, next s k g))
+      | no e ↦ omega (arith, next s k g, larger s i k (omega arith) (omega arith))
+    ]
+
+-- ---- bytes with no zero in front
+
+module _ (s : List ℕ) (g : 0 < getD s 0 0) where
+  positive : (k : ℕ) → k < length s → 0 < value 256 (take (suc k) s)
+  positive zero h = omega (arith, next s 0 h)
+  positive (suc k) h = omega (arith, next s (suc k) h, positive k (omega arith))
 
   -- they are the fewest of their number
   grown-back : (k most : ℕ) → Bytes s → k ≤ length s → value 256 (take k s) ≤ most → grown most (value 256 (take k s)) ≡ take k s
   grown-back zero most b h l = none-grown most
-  grown-back (suc k) zero b h l = absurd (omega (arith, at-least k h, one-le-pow k 256 (omega arith)))
+  grown-back (suc k) zero b h l = absurd (omega (arith, positive k h))
   grown-back (suc k) (suc most) b h l =
       let n : ℕ = value 256 (take (suc k) s) in
-      let e = next k h in
+      let e = next s k h in
       let x = a-byte s k b in
-      let p : 0 < n = omega (arith, at-least k h, one-le-pow k 256 (omega arith)) in
+      let p : 0 < n = positive k h in
       let q : n / 256 ≡ value 256 (take k s) = omega arith in
       let r : n % 256 ≡ getD s k 0 = omega arith in
       grown-on most n p ∙ rw (q, r, take-suc s k 0 h, grown-back k most b (omega arith) (omega arith))
@@ -79,14 +91,6 @@ module _ (s : List ℕ) (g : 0 < getD s 0 0) where
   pub fewest-back : (k : ℕ) → Bytes s → k ≤ length s → fewest (value 256 (take k s)) ≡ take k s
   unfolding fewest
   fewest-back k b h = grown-back k (value 256 (take k s)) b h (le-refl (value 256 (take k s)))
-
--- more than eight of them are longer than any slice
-pub many-bytes : (s : List ℕ) (k : ℕ) → 0 < getD s 0 0 → 8 < k → k ≤ length s → 256 ^ 8 ≤ value 256 (take k s)
-many-bytes s zero g l h = absurd (omega arith)
-many-bytes s (suc k) g l h =
-    let p : 0 < 256 = omega arith in
-    let q : 8 ≤ k = omega arith in
-    le-trans (pow-le-pow-right p q) (at-least s g k h)
 
 -- ---- a length in more than one byte
 
@@ -134,6 +138,13 @@ module _ (n : ℕ) (r : List ℕ) where
       let d : 1 + k ≡ suc k = omega arith in
       rw (le-ltb (0x80 + k) 128 (omega arith), a) (is-many k (fewest n ++ r) m ∙ rw (w, d)))
 
+same : {l m : Spelt} → some l ≡ some m → l ≡ m
+same f = cc
+
+-- no other number's length stands there
+pub no-other : (m n : ℕ) (r s : List ℕ) → lengthBytes m ++ r ≡ lengthBytes n ++ s → m ≡ n
+no-other m n r s e = ap (λ (l : Spelt). l .number) (same (sym (reads m r) ∙ ap readLength e ∙ reads n s))
+
 -- ---- what is read was written so
 
 abbrev Written : List ℕ → Spelt → Type 0
@@ -148,9 +159,6 @@ written (a ∷ r) b l e =
     (λ h f. long (ltb-false a 128 h) f)
     e
   where
-    same : {l m : Spelt} → some l ≡ some m → l ≡ m
-    same f = cc
-
     long : 128 ≤ a → inMany (a - 0x80) r ≡ some l → Written (a ∷ r) l
     long h =
         let k : ℕ = a - 0x80 in

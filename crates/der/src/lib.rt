@@ -4,7 +4,6 @@ ghost use Prim.Native.Nat.{_+_, _-_, _<_, _≤_};
 ghost use lib.ListN.{length, take, drop, getD};
 ghost use Rattle.der.specs.Walk.{headed, headOf, items, judged, tally, certificate, depthFor};
 use numbers::index;
-use numbers::number;
 use verdicts::Fault;
 use verdicts::Ruling;
 
@@ -39,24 +38,32 @@ fn fitting(tag: usize, room: usize, n: usize, width: usize) -> Head
     Head::Leaf(1 + width + n)
 }
 
-// Where the length takes more than one byte: its first holds 80 hex and how many follow. A number of more than eight bytes, none of
-// them a zero in front, is longer than any slice.
+// Where the length takes more than one byte: its first holds 80 hex and how many follow, the first of those no zero. A number
+// that takes a ninth byte is longer than any slice.
 fn long_front(s: &[u8]) -> Head
     requires { ⌜ (1 < length (now s)) × (128 ≤ getD (now s) 1 0) ⌝ }
     ensures { λ r. ⌜ r ≡ headOf (now (s .entry)) ⌝ }
 {
     let k = index(s[1]) - 128;
-    if 8 < k {
+    if k == 0 {
         return Head::Broken;
     }
     if s.len() - 2 < k {
         return Head::Broken;
     }
-    let n = number(s, 2, k) as usize;
-    if n < 128 {
+    let mut n = index(s[2]);
+    if n == 0 {
         return Head::Broken;
     }
-    if s[2] == 0 {
+    let mut i: usize = 1;
+    while i < k {
+        if 72057594037927935 < n {
+            return Head::Broken;
+        }
+        n = n * 256 + index(s[2 + i]);
+        i += 1;
+    }
+    if n < 128 {
         return Head::Broken;
     }
     fitting(index(s[0]), s.len() - 1, n, 1 + k)
@@ -185,10 +192,13 @@ pub fn judge(v: &[u8], depth: usize) -> Ruling
         Walked::Bad => Ruling::Breaks(Fault::BadDer),
         Walked::Deep => Ruling::Breaks(Fault::TooDeep),
         Walked::Whole(n) => {
-            if (first_byte(v) == 0x30) & (n == 3) {
-                return Ruling::Kept;
+            if first_byte(v) != 0x30 {
+                return Ruling::Breaks(Fault::BadDer);
             }
-            Ruling::Breaks(Fault::BadDer)
+            if n != 3 {
+                return Ruling::Breaks(Fault::BadDer);
+            }
+            Ruling::Kept
         }
     }
 }
