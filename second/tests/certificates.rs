@@ -1,0 +1,157 @@
+//! Certificates, made and damaged.
+
+use second::batch::Call;
+use second::check;
+use second::der::{self, Fault};
+use second::generate::{Inputs, Rng, EXAMPLE_DAY};
+use second::samples::{certificate, P256, RSA};
+use second::trees::{self, Tree};
+use second::values::CERTIFICATE_LEVELS;
+use std::collections::BTreeSet;
+
+fn number_of(value: &[u8]) -> u64 {
+    check(8, EXAMPLE_DAY, &certificate(8, value, 0, None).container()).0
+}
+
+/// A reader of another make, which goes down from the outermost item and knows of each item where it has to end: the lists of
+/// ends that are open, the first fault.
+fn judged_by_ends(value: &[u8]) -> u64 {
+    let (mut at, mut ends, mut parts) = (0, vec![value.len()], 0);
+    loop {
+        while ends.len() > 1 && at == ends[ends.len() - 1] {
+            ends.pop();
+        }
+        if ends.len() == 1 && at > 0 {
+            break;
+        }
+        if ends.len() > 8 {
+            return 25;
+        }
+        parts += u64::from(ends.len() == 2);
+        let end = ends[ends.len() - 1];
+        let bytes = |from: usize, count: usize| value[..end].get(from..from + count);
+        let (tag, first) = match bytes(at, 2) {
+            Some(&[tag, first]) if tag % 32 != 31 => (tag, first),
+            _ => return 24,
+        };
+        let (head, length) = match (first, bytes(at + 2, 1), bytes(at + 2, 2)) {
+            (0..=127, _, _) => (2, usize::from(first)),
+            (0x81, Some(&[low @ 128..=255]), _) => (3, usize::from(low)),
+            (0x82, _, Some(&[high @ 1..=255, low])) => (4, usize::from(high) * 256 + usize::from(low)),
+            _ => return 24,
+        };
+        if at + head + length > end {
+            return 24;
+        }
+        at += head;
+        if tag / 32 % 2 == 1 {
+            ends.push(at + length);
+        } else {
+            at += length;
+        }
+    }
+    if at == value.len() && value[0] == 0x30 && parts == 3 {
+        0
+    } else {
+        24
+    }
+}
+
+#[test]
+fn made_certificates_conform() {
+    let mut rng = Rng::new(11);
+    let mut levels = BTreeSet::new();
+    for _ in 0..20_000 {
+        let value = trees::certificate(&mut rng);
+        assert_eq!(number_of(&value), 0, "{:02X?}", value);
+        let tree = Tree::of(&value, CERTIFICATE_LEVELS).unwrap();
+        assert_eq!(tree.bytes(), value);
+        levels.insert(tree.levels());
+        let twin = trees::twin(&mut rng, &value);
+        assert_eq!((number_of(&twin), twin.len()), (0, value.len()));
+    }
+    assert!(levels.iter().copied().eq(2..=CERTIFICATE_LEVELS));
+}
+
+#[test]
+fn sizes() {
+    let mut rng = Rng::new(12);
+    for size in 0..700 {
+        // three items of two bytes are the least, and 130 and 259 bytes are no item's
+        let possible = size >= 8 && size != 130 && size != 259;
+        for _ in 0..20 {
+            let value = trees::certificate_of(&mut rng, size);
+            assert_eq!(value.is_some(), possible, "{}", size);
+            assert!(value.map_or(true, |value| value.len() == size && number_of(&value) == 0));
+        }
+    }
+}
+
+#[test]
+fn both_readers_agree_on_damaged_ones() {
+    let mut rng = Rng::new(13);
+    let mut counts = [0; 3];
+    let mut judge = |value: &[u8]| {
+        let number = number_of(value);
+        assert_eq!(number, judged_by_ends(value), "{:02X?}", value);
+        counts[usize::from(number == 24) + 2 * usize::from(number == 25)] += 1;
+    };
+    for _ in 0..100_000 {
+        let mut value = trees::certificate(&mut rng);
+        trees::damage(&mut rng, &mut value);
+        judge(&value);
+    }
+    trees::edges().iter().for_each(|value| judge(value));
+    assert!(counts.iter().all(|&count| count > 5_000), "{:?}", counts);
+}
+
+#[test]
+fn real_ones() {
+    for value in [RSA, P256] {
+        assert_eq!(number_of(value), 0);
+        let tree = Tree::of(value, CERTIFICATE_LEVELS).unwrap();
+        assert_eq!((tree.bytes(), tree.levels()), (value.to_vec(), 6));
+        for number in 0..tree.count() {
+            for longer in tree.with_longer_length(number) {
+                assert_eq!(number_of(&longer), 24);
+                assert!(longer.len() > value.len());
+            }
+        }
+        for cut in 0..value.len() {
+            assert_eq!(number_of(&value[..cut]), 24);
+        }
+    }
+}
+
+/// Sixteen levels are read as eight are, and without the three parts.
+#[test]
+fn other_depths() {
+    for levels in 2..=20 {
+        let value = trees::down_to(levels, 5, &[]).bytes();
+        for allowed in 1..=20 {
+            let read = der::whole(&value, allowed).map(|item| (item.tag, item.parts));
+            assert_eq!(read, if levels <= allowed { Ok((0x30, 3)) } else { Err(Fault::Depth) });
+        }
+    }
+    assert_eq!(der::whole(&[0x04, 1, 0xFF], 16).map(|item| item.parts), Ok(0));
+}
+
+#[test]
+fn calls_on_certificates_are_made() {
+    let mut inputs = Inputs::new(14);
+    let mut seen = BTreeSet::new();
+    for _ in 0..60_000 {
+        let record = inputs.record();
+        if (8..=11).contains(&record.kind) && !matches!(record.call, Call::FascnDecode | Call::FascnEncode) {
+            seen.insert((record.kind, record.call, record.answer().number));
+        }
+    }
+    for kind in 8..=11 {
+        for call in [Call::Check, Call::Read, Call::Write, Call::View] {
+            for number in [0, 15, 16, 20, 24, 25] {
+                assert!(seen.contains(&(kind, call, number)), "{} {:?} {}", kind, call, number);
+            }
+        }
+        assert!(seen.contains(&(kind, Call::Report, 0)));
+    }
+}
