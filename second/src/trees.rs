@@ -369,9 +369,9 @@ pub fn damage(rng: &mut Rng, value: &mut Vec<u8>) {
 fn damage_tree(rng: &mut Rng, tree: &mut Tree) {
     let number = rng.size(0, tree.count() - 1);
     match rng.below(16) {
-        0..=2 => sink(rng, tree, number),
-        3 | 4 => damage_outermost(rng, tree),
-        5 => tree.tag = rng.pick(&[SEQUENCE, 0x31, 0x10, 0x20, 0x24, 0x70, 0xB0, 0xF0, 0x3F, 0x00]),
+        0..=4 => sink(rng, tree, number),
+        5 | 6 => damage_outermost(rng, tree),
+        7 => tree.tag = rng.pick(&[SEQUENCE, 0x31, 0x10, 0x20, 0x24, 0x70, 0xB0, 0xF0, 0x3F, 0x00]),
         _ => damage_item(rng, tree.item(number, 1).0),
     }
 }
