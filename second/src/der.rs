@@ -27,32 +27,29 @@ pub fn is_constructed(tag: u8) -> bool {
     tag & CONSTRUCTED != 0
 }
 
-/// Reads one item that is all of the bytes. It lies at level 1 of so many levels.
+/// Reads one item that is all of the bytes. It lies at the first of so many levels, of which there is one at least.
 pub fn whole(bytes: &[u8], levels: usize) -> Result<Item<'_>, Fault> {
-    let (item, behind) = item(bytes, levels)?;
+    let (tag, content, behind) = front(bytes).ok_or(Fault::Item)?;
+    let parts = if is_constructed(tag) { parts(content, levels - 1)? } else { 0 };
     if behind.is_empty() {
-        Ok(item)
+        Ok(Item { tag, content, parts })
     } else {
         Err(Fault::Item)
     }
 }
 
-/// Reads the item that the bytes begin with, with all that is inside; gives it and what is behind it.
-fn item(bytes: &[u8], levels: usize) -> Result<(Item<'_>, &[u8]), Fault> {
-    if levels == 0 {
-        return Err(Fault::Depth);
-    }
-    let (tag, content, behind) = front(bytes).ok_or(Fault::Item)?;
-    let parts = if is_constructed(tag) { parts(content, levels - 1)? } else { 0 };
-    Ok((Item { tag, content, parts }, behind))
-}
-
-/// How many items the content is, one behind the other.
+/// How many items the content is, one behind the other, each with all that is inside. So many levels are left for them.
 fn parts(content: &[u8], levels: usize) -> Result<usize, Fault> {
     let mut rest = content;
     let mut count = 0;
     while !rest.is_empty() {
-        let (_, behind) = item(rest, levels)?;
+        if levels == 0 {
+            return Err(Fault::Depth);
+        }
+        let (tag, content, behind) = front(rest).ok_or(Fault::Item)?;
+        if is_constructed(tag) {
+            parts(content, levels - 1)?;
+        }
         rest = behind;
         count += 1;
     }
@@ -60,6 +57,7 @@ fn parts(content: &[u8], levels: usize) -> Result<usize, Fault> {
 }
 
 /// The tag and the content of the item that the bytes begin with, and what is behind it; the content is not looked at.
+#[inline]
 pub fn front(bytes: &[u8]) -> Option<(u8, &[u8], &[u8])> {
     let (&tag, after_tag) = bytes.split_first()?;
     if tag & NUMBER == NUMBER {
@@ -75,6 +73,7 @@ pub fn front(bytes: &[u8]) -> Option<(u8, &[u8], &[u8])> {
 
 /// The length that the bytes begin with, in the fewest bytes, and what is behind it: a number under 128 is its own byte;
 /// any other has a byte 80 and how many bytes follow, of which the first is not 0.
+#[inline]
 fn length(bytes: &[u8]) -> Option<(u64, &[u8])> {
     let (&first, rest) = bytes.split_first()?;
     if first < 0x80 {
