@@ -19,8 +19,6 @@ pub fn all() -> Vec<Group> {
         fascns(),
         biometrics(),
         certificates(),
-        certificate_items(),
-        certificate_elements(),
         limits(),
         conforming(),
         broken(),
@@ -176,7 +174,7 @@ fn fascns() -> Vec<Group> {
 }
 
 // ---------------------------------------------------------------------------------------------
-// Checks
+// Biometric records
 
 fn biometrics() -> Vec<Group> {
     let fingers_of = |quality, verdict| check(6, &fingers(quality, b'0', [0, 0]).container(), verdict);
@@ -214,6 +212,9 @@ fn biometrics() -> Vec<Group> {
     ]
 }
 
+// ---------------------------------------------------------------------------------------------
+// Certificates
+
 /// The least certificate.
 const LEAST: [u8; 8] = [0x30, 6, 5, 0, 5, 0, 5, 0];
 
@@ -221,6 +222,10 @@ const LEAST: [u8; 8] = [0x30, 6, 5, 0, 5, 0, 5, 0];
 const LEVEL_8: [u8; 20] = [0x30, 18, 0x30, 12, 0x30, 10, 0x30, 8, 0x30, 6, 0x30, 4, 0x30, 2, 5, 0, 5, 0, 5, 0];
 const LEVEL_9: [u8; 22] =
     [0x30, 20, 0x30, 14, 0x30, 12, 0x30, 10, 0x30, 8, 0x30, 6, 0x30, 4, 0x30, 2, 5, 0, 5, 0, 5, 0];
+
+/// One with a SEQUENCE at level 8 that has one byte inside.
+const HALF_AN_ITEM: [u8; 21] =
+    [0x30, 19, 0x30, 13, 0x30, 11, 0x30, 9, 0x30, 7, 0x30, 5, 0x30, 3, 0x30, 1, 5, 5, 0, 5, 0];
 
 /// A certificate of so many bytes, most of them in items of two bytes.
 fn of_pairs(bytes: usize) -> Vec<u8> {
@@ -236,169 +241,219 @@ fn of_pairs(bytes: usize) -> Vec<u8> {
     out
 }
 
-/// A check of PIVAUTH with this value of 70, of at most 127 bytes.
+/// A certificate of three parts, the second of which is these bytes.
+fn with_part(part: &[u8]) -> Vec<u8> {
+    let length = part.len() + 4;
+    let length = match length {
+        0..=127 => vec![length as u8],
+        128..=255 => vec![0x81, length as u8],
+        _ => vec![0x82, (length >> 8) as u8, length as u8],
+    };
+    [&[0x30], &length[..], &[5, 0], part, &[5, 0]].concat()
+}
+
+/// A check of PIVAUTH with this value of 70, whose tag stands behind an outer length of one, two or three bytes.
 fn check_70(value: &[u8], number: u64) -> Case {
-    let place = if number == 0 { 0 } else { 2 + u64::from(value.len() + 7 > 127) };
-    check(8, &certificate(8, value, 0, None).container(), (number, place))
+    let container = certificate(8, value, 0, None).container();
+    let place = match container[1] {
+        _ if number == 0 => 0,
+        0x81 => 3,
+        0x82 => 4,
+        _ => 2,
+    };
+    check(8, &container, (number, place))
 }
 
 fn certificates() -> Vec<Group> {
     let least = |kind| check(kind, &certificate(kind, &LEAST, 0, None).container(), (0, 0));
-    let parts = |outer: u8, count: usize| [&[outer, 2 * count as u8], &[5, 0].repeat(count)[..]].concat();
-    let with_9 = |tag: u8, length: u8| {
-        let mut value = LEVEL_9;
-        value[16..18].copy_from_slice(&[tag, length]);
-        value
-    };
-    let mut half = LEVEL_8.to_vec();
-    // level 8 is a SEQUENCE with one byte inside
-    half.splice(14..16, [0x30, 1, 5]);
-    for length in [1, 3, 5, 7, 9, 11, 13] {
-        half[length] += 1;
-    }
     vec![
         ("the least certificate as PIVAUTH, DIGSIG, KEYMGMT, CARDAUTH", vec![least(8), least(9), least(10), least(11)]),
-        (
-            "an item at level 8 and at level 9; there a tag 1F, a length 80 and half an item are not looked at",
-            vec![
-                check_70(&LEVEL_8, 0),
-                check_70(&LEVEL_9, 25),
-                check_70(&with_9(0x1F, 0), 25),
-                check_70(&with_9(5, 0x80), 25),
-                check_70(&half, 25),
-            ],
-        ),
-        (
-            "no, one, two, three, four and five parts; a SET, a primitive 10 and another class outside",
-            vec![
-                check_70(&parts(0x30, 0), 24),
-                check_70(&parts(0x30, 1), 24),
-                check_70(&parts(0x30, 2), 24),
-                check_70(&parts(0x30, 3), 0),
-                check_70(&parts(0x30, 4), 24),
-                check_70(&parts(0x30, 5), 24),
-                check_70(&parts(0x31, 3), 24),
-                check_70(&parts(0x10, 3), 24),
-                check_70(&parts(0x70, 3), 24),
-            ],
-        ),
-        (
-            "an empty 70, a tag alone, a byte behind the outermost item and one too few",
-            vec![
-                check_70(&[], 24),
-                check_70(&[0x30], 24),
-                check_70(&[&LEAST[..], &[0]].concat(), 24),
-                check_70(&LEAST[..7], 24),
-            ],
-        ),
-    ]
-}
-
-fn certificate_items() -> Vec<Group> {
-    // a certificate whose second part is these bytes
-    let with = |part: &[u8]| [&[0x30, part.len() as u8 + 4, 5, 0], part, &[5, 0]].concat();
-    let tag = |tag: u8, number| check_70(&with(&[tag, 0]), number);
-    let long = |length: &[u8], bytes: usize, number| {
-        let part = [&[4], length, &vec![0; bytes][..]].concat();
-        let size = [&[0x82][..], &(part.len() as u16 + 4).to_be_bytes()].concat();
-        let size = if part.len() + 4 < 256 { vec![0x81, part.len() as u8 + 4] } else { size };
-        let value = [&[0x30], &size[..], &[5, 0], &part, &[5, 0]].concat();
-        let place = if value.len() + 8 < 256 { 3 } else { 4 };
-        check(9, &certificate(9, &value, 0, None).container(), if number == 0 { (0, 0) } else { (number, place) })
-    };
-    vec![
-        (
-            "tags of number 31 in each class, and of number 30; tag 00",
-            vec![tag(0x1F, 24), tag(0x3F, 24), tag(0x5F, 24), tag(0x9F, 24), tag(0xFF, 24), tag(0x1E, 0), tag(0xBE, 0), tag(0, 0)],
-        ),
-        (
-            "only constructed items are opened: 04 and 24 with the same bytes inside, and 24 with an item inside",
-            vec![
-                check_70(&with(&[0x04, 2, 0xFF, 0xFF]), 0),
-                check_70(&with(&[0x24, 2, 0xFF, 0xFF]), 24),
-                check_70(&with(&[0x24, 2, 5, 0]), 0),
-            ],
-        ),
-        (
-            "a part that runs past its item, one that leaves a byte over, a length that is cut off, 80",
-            vec![
-                check_70(&with(&[0x30, 2, 5, 1]), 24),
-                check_70(&with(&[0x30, 3, 5, 0, 5]), 24),
-                check_70(&[0x30, 6, 5, 0, 5, 0, 4, 0x81], 24),
-                check_70(&with(&[0x30, 0x80, 5, 0, 0, 0]), 24),
-            ],
-        ),
-        (
-            "contents of 127, 128, 255 and 256 bytes, and the same lengths in a byte more",
-            vec![
-                long(&[0x7F], 127, 0),
-                long(&[0x81, 0x7F], 127, 24),
-                long(&[0x81, 0x80], 128, 0),
-                long(&[0x82, 0x00, 0x80], 128, 24),
-                long(&[0x81, 0xFF], 255, 0),
-                long(&[0x82, 0x00, 0xFF], 255, 24),
-                long(&[0x82, 0x01, 0x00], 256, 0),
-                long(&[0x83, 0x00, 0x01, 0x00], 256, 24),
-            ],
-        ),
-        (
-            "the first fault in byte order: 1F before level 9 and behind it; level 9 before four parts, a SET and a byte behind",
-            vec![
-                check_70(&[&[0x30, 22, 0x1F, 0], &LEVEL_9[2..]].concat(), 24),
-                check_70(&[&[0x30, 22], &LEVEL_9[2..], &[0x1F, 0]].concat(), 25),
-                check_70(&[&[0x30, 22, 5, 0], &LEVEL_9[2..]].concat(), 25),
-                check_70(&[&[0x31, 20], &LEVEL_9[2..]].concat(), 25),
-                check_70(&[&LEVEL_9[..], &[0]].concat(), 25),
-                check_70(&[&[0x30, 21], &LEVEL_9[2..]].concat(), 24),
-            ],
-        ),
-    ]
-}
-
-fn certificate_elements() -> Vec<Group> {
-    let of = |value: &[u8], information: u8, extra, verdict| {
-        check(10, &certificate(10, value, information, extra).container(), verdict)
-    };
-    let elements = |elements: &[&[u8]], verdict| {
-        let content = elements.concat();
-        check(11, &[&[0x53, content.len() as u8], &content[..]].concat(), verdict)
-    };
-    let (first, second, third, last) = ([&[0x70, 8], &LEAST[..]].concat(), [0x71, 1, 0], [0x72, 0], [0xFE, 0]);
-    vec![
-        (
-            "71 of 01; of 01 with a certificate that is compressed; of no bytes and of two",
-            vec![
-                of(&LEAST, 1, None, (20, 12)),
-                of(COMPRESSED, 1, None, (24, 4)),
-                elements(&[&first, &[0x71, 0], &last], (16, 12)),
-                elements(&[&first, &[0x71, 2, 0, 0], &last], (16, 12)),
-            ],
-        ),
-        (
-            "72 of 0, 38 and 39 bytes",
-            vec![
-                of(&LEAST, 0, Some(&[]), (0, 0)),
-                of(&LEAST, 0, Some(&[0x41; 38]), (0, 0)),
-                of(&LEAST, 0, Some(&[0x41; 39]), (16, 15)),
-            ],
-        ),
-        (
-            "70 missing, 71 missing, 72 before 71, 71 twice, FE missing, a tag that is none",
-            vec![
-                elements(&[&second, &last], (15, 2)),
-                elements(&[&first, &last], (15, 12)),
-                elements(&[&first, &third, &second, &last], (15, 12)),
-                elements(&[&first, &second, &second, &last], (14, 15)),
-                elements(&[&first, &second, &third], (15, 17)),
-                elements(&[&first, &second, &[0x73, 0], &last], (13, 15)),
-            ],
-        ),
+        certificate_levels(),
+        certificate_parts(),
+        torn_certificates(),
+        certificate_tags(),
+        opened_items(),
+        torn_items(),
+        item_lengths(),
+        first_fault(),
+        certificate_information(),
+        certificate_extras(),
+        certificate_rows(),
         (
             "certificates of two-byte items in containers of exactly 32,768 bytes and of 32,769",
-            vec![of(&of_pairs(32_755), 0, None, (0, 0)), of(&of_pairs(32_756), 0, None, (4, 0))],
+            vec![
+                check(9, &certificate(9, &of_pairs(32_755), 0, None).container(), (0, 0)),
+                check(9, &certificate(9, &of_pairs(32_756), 0, None).container(), (4, 0)),
+            ],
         ),
     ]
 }
+
+fn certificate_levels() -> Group {
+    let with_9 = |tag: u8, length: u8| [&LEVEL_9[..16], &[tag, length], &LEVEL_9[18..]].concat();
+    (
+        "an item at level 8 and at level 9; there a tag 1F, a length 80 and half an item are not looked at",
+        vec![
+            check_70(&LEVEL_8, 0),
+            check_70(&LEVEL_9, 25),
+            check_70(&with_9(0x1F, 0), 25),
+            check_70(&with_9(5, 0x80), 25),
+            check_70(&HALF_AN_ITEM, 25),
+        ],
+    )
+}
+
+fn certificate_parts() -> Group {
+    let parts = |outer: u8, count: usize| [&[outer, 2 * count as u8], &[5, 0].repeat(count)[..]].concat();
+    (
+        "no, one, two, three, four and five parts; a SET, a primitive 10 and another class outside",
+        vec![
+            check_70(&parts(0x30, 0), 24),
+            check_70(&parts(0x30, 1), 24),
+            check_70(&parts(0x30, 2), 24),
+            check_70(&parts(0x30, 3), 0),
+            check_70(&parts(0x30, 4), 24),
+            check_70(&parts(0x30, 5), 24),
+            check_70(&parts(0x31, 3), 24),
+            check_70(&parts(0x10, 3), 24),
+            check_70(&parts(0x70, 3), 24),
+        ],
+    )
+}
+
+fn torn_certificates() -> Group {
+    (
+        "an empty 70, a tag alone, a byte behind the outermost item and one too few",
+        vec![
+            check_70(&[], 24),
+            check_70(&[0x30], 24),
+            check_70(&[&LEAST[..], &[0]].concat(), 24),
+            check_70(&LEAST[..7], 24),
+        ],
+    )
+}
+
+fn certificate_tags() -> Group {
+    let tag = |tag: u8, number| check_70(&with_part(&[tag, 0]), number);
+    (
+        "tags of number 31 in each class, and of number 30; tag 00",
+        vec![
+            tag(0x1F, 24),
+            tag(0x3F, 24),
+            tag(0x5F, 24),
+            tag(0x9F, 24),
+            tag(0xFF, 24),
+            tag(0x1E, 0),
+            tag(0xBE, 0),
+            tag(0x00, 0),
+        ],
+    )
+}
+
+fn opened_items() -> Group {
+    (
+        "only constructed items are opened: 04 and 24 with the same bytes inside, and 24 with an item inside",
+        vec![
+            check_70(&with_part(&[0x04, 2, 0xFF, 0xFF]), 0),
+            check_70(&with_part(&[0x24, 2, 0xFF, 0xFF]), 24),
+            check_70(&with_part(&[0x24, 2, 5, 0]), 0),
+        ],
+    )
+}
+
+fn torn_items() -> Group {
+    (
+        "a part that runs past its item, one that leaves a byte over, a length that is cut off, 80",
+        vec![
+            check_70(&with_part(&[0x30, 2, 5, 1]), 24),
+            check_70(&with_part(&[0x30, 3, 5, 0, 5]), 24),
+            check_70(&[0x30, 6, 5, 0, 5, 0, 4, 0x81], 24),
+            check_70(&with_part(&[0x30, 0x80, 5, 0, 0, 0]), 24),
+        ],
+    )
+}
+
+fn item_lengths() -> Group {
+    let long = |length: &[u8], bytes: usize, number| {
+        check_70(&with_part(&[&[4], length, &vec![0; bytes][..]].concat()), number)
+    };
+    (
+        "contents of 127, 128, 255 and 256 bytes, and the same lengths in a byte more",
+        vec![
+            long(&[0x7F], 127, 0),
+            long(&[0x81, 0x7F], 127, 24),
+            long(&[0x81, 0x80], 128, 0),
+            long(&[0x82, 0x00, 0x80], 128, 24),
+            long(&[0x81, 0xFF], 255, 0),
+            long(&[0x82, 0x00, 0xFF], 255, 24),
+            long(&[0x82, 0x01, 0x00], 256, 0),
+            long(&[0x83, 0x00, 0x01, 0x00], 256, 24),
+        ],
+    )
+}
+
+fn first_fault() -> Group {
+    let parts = &LEVEL_9[2..];
+    (
+        "the first fault in byte order: 1F before level 9 and behind it; level 9 before four parts, a SET and a byte behind; \
+         an outermost item that is cut off before level 9",
+        vec![
+            check_70(&[&[0x30, 22, 0x1F, 0], parts].concat(), 24),
+            check_70(&[&[0x30, 22], parts, &[0x1F, 0]].concat(), 25),
+            check_70(&[&[0x30, 22, 5, 0], parts].concat(), 25),
+            check_70(&[&[0x31, 20], parts].concat(), 25),
+            check_70(&[&[0x30, 20], parts, &[0]].concat(), 25),
+            check_70(&[&[0x30, 21], parts].concat(), 24),
+        ],
+    )
+}
+
+/// A check of CARDAUTH with these elements.
+fn check_elements(elements: &[&[u8]], verdict: Refusal) -> Case {
+    let content = elements.concat();
+    check(11, &[&[0x53, content.len() as u8], &content[..]].concat(), verdict)
+}
+
+/// The first element with the least certificate, and the second and the last as they should be.
+const ELEMENT_70: [u8; 10] = [0x70, 8, 0x30, 6, 5, 0, 5, 0, 5, 0];
+const ELEMENT_71: [u8; 3] = [0x71, 1, 0];
+const ELEMENT_FE: [u8; 2] = [0xFE, 0];
+
+fn certificate_information() -> Group {
+    (
+        "71 of 01; of 01 with a certificate that is compressed; of no bytes and of two",
+        vec![
+            check(10, &certificate(10, &LEAST, 1, None).container(), (20, 12)),
+            check(10, &certificate(10, COMPRESSED, 1, None).container(), (24, 4)),
+            check_elements(&[&ELEMENT_70, &[0x71, 0], &ELEMENT_FE], (16, 12)),
+            check_elements(&[&ELEMENT_70, &[0x71, 2, 0, 0], &ELEMENT_FE], (16, 12)),
+        ],
+    )
+}
+
+fn certificate_extras() -> Group {
+    let of =
+        |length: usize, verdict| check(10, &certificate(10, &LEAST, 0, Some(&vec![0x41; length])).container(), verdict);
+    ("72 of 0, 38 and 39 bytes", vec![of(0, (0, 0)), of(38, (0, 0)), of(39, (16, 15))])
+}
+
+fn certificate_rows() -> Group {
+    let extra = [0x72, 0];
+    (
+        "70 missing, 71 missing, 72 before 71, 71 twice, FE missing, a tag that is none",
+        vec![
+            check_elements(&[&ELEMENT_71, &ELEMENT_FE], (15, 2)),
+            check_elements(&[&ELEMENT_70, &ELEMENT_FE], (15, 12)),
+            check_elements(&[&ELEMENT_70, &extra, &ELEMENT_71, &ELEMENT_FE], (15, 12)),
+            check_elements(&[&ELEMENT_70, &ELEMENT_71, &ELEMENT_71, &ELEMENT_FE], (14, 15)),
+            check_elements(&[&ELEMENT_70, &ELEMENT_71, &extra], (15, 17)),
+            check_elements(&[&ELEMENT_70, &ELEMENT_71, &[0x73, 0], &ELEMENT_FE], (13, 15)),
+        ],
+    )
+}
+
+// ---------------------------------------------------------------------------------------------
+// Limits, kinds and broken containers
 
 fn limits() -> Vec<Group> {
     let day = |today, number| on(today, check(5, &SMALL, (number, 0)));

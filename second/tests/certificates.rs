@@ -13,8 +13,18 @@ fn number_of(value: &[u8]) -> u64 {
     check(8, EXAMPLE_DAY, &certificate(8, value, 0, None).container()).0
 }
 
-/// A reader of another make, which goes down from the outermost item and knows of each item where it has to end: the lists of
-/// ends that are open, the first fault.
+/// The tag, the bytes before the content and the length of the item that stands here, in the fewest bytes.
+fn head(bytes: &[u8]) -> Option<(u8, usize, usize)> {
+    match *bytes {
+        [tag, ..] if tag % 32 == 31 => None,
+        [tag, short @ 0..=127, ..] => Some((tag, 2, usize::from(short))),
+        [tag, 0x81, low @ 128..=255, ..] => Some((tag, 3, usize::from(low))),
+        [tag, 0x82, high @ 1..=255, low, ..] => Some((tag, 4, usize::from(high) * 256 + usize::from(low))),
+        _ => None,
+    }
+}
+
+/// A reader of another make: it goes along the bytes with a list of the ends of all items that it is inside.
 fn judged_by_ends(value: &[u8]) -> u64 {
     let (mut at, mut ends, mut parts) = (0, vec![value.len()], 0);
     loop {
@@ -29,21 +39,11 @@ fn judged_by_ends(value: &[u8]) -> u64 {
         }
         parts += u64::from(ends.len() == 2);
         let end = ends[ends.len() - 1];
-        let bytes = |from: usize, count: usize| value[..end].get(from..from + count);
-        let (tag, first) = match bytes(at, 2) {
-            Some(&[tag, first]) if tag % 32 != 31 => (tag, first),
+        let (tag, before, length) = match head(&value[at..end]) {
+            Some(head) if at + head.1 + head.2 <= end => head,
             _ => return 24,
         };
-        let (head, length) = match (first, bytes(at + 2, 1), bytes(at + 2, 2)) {
-            (0..=127, _, _) => (2, usize::from(first)),
-            (0x81, Some(&[low @ 128..=255]), _) => (3, usize::from(low)),
-            (0x82, _, Some(&[high @ 1..=255, low])) => (4, usize::from(high) * 256 + usize::from(low)),
-            _ => return 24,
-        };
-        if at + head + length > end {
-            return 24;
-        }
-        at += head;
+        at += before;
         if tag / 32 % 2 == 1 {
             ends.push(at + length);
         } else {
