@@ -5,9 +5,11 @@ use mathlib.Core.List.{List, [], _∷_, _++_}
 use lib.ListN.{getD}
 use Rattle.texts.specs.Text.{ascii, numeral, digitsLine}
 
--- "1 CCC, 2 CHUID, 3 DISCOVERY, 4 PRINTED, 5 SECURITY, 6 FINGERS, 7 FACE"
+-- "1 CCC, 2 CHUID, 3 DISCOVERY, 4 PRINTED, 5 SECURITY, 6 FINGERS, 7 FACE"; 2026-04: "Kind numbers 8 to 11, printed PIVAUTH, DIGSIG, KEYMGMT, CARDAUTH"
 abbrev pub names : List (List ℕ)
-names = ascii "CCC" ∷ ascii "CHUID" ∷ ascii "DISCOVERY" ∷ ascii "PRINTED" ∷ ascii "SECURITY" ∷ ascii "FINGERS" ∷ ascii "FACE" ∷ []
+names =
+    ascii "CCC" ∷ ascii "CHUID" ∷ ascii "DISCOVERY" ∷ ascii "PRINTED" ∷ ascii "SECURITY" ∷ ascii "FINGERS" ∷ ascii "FACE"
+    ∷ ascii "PIVAUTH" ∷ ascii "DIGSIG" ∷ ascii "KEYMGMT" ∷ ascii "CARDAUTH" ∷ []
 
 -- a number that is no kind has no name
 abbrev pub kindName : ℕ → List ℕ

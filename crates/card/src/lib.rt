@@ -5,7 +5,8 @@ ghost use Rattle.laws.specs.Room.{Put};
 ghost use Rattle.texts.specs.Text.{ascii, numeral};
 ghost use Rattle.card.specs.Card.{kindName, cardPart};
 
-// "1 CCC, 2 CHUID, 3 DISCOVERY, 4 PRINTED, 5 SECURITY, 6 FINGERS, 7 FACE", and the line's end.
+// "1 CCC, 2 CHUID, 3 DISCOVERY, 4 PRINTED, 5 SECURITY, 6 FINGERS, 7 FACE", 2026-04: "8 to 11, printed PIVAUTH, DIGSIG, KEYMGMT,
+// CARDAUTH", and the line's end.
 fn put_kind(kind: u64, out: &mut [u8]) -> usize
     ensures { λ r. ⌜ Put (kindName kind ++ 10 ∷ []) (now (out .entry)) (now (out .exit)) r ⌝ }
 {
@@ -17,6 +18,10 @@ fn put_kind(kind: u64, out: &mut [u8]) -> usize
         5 => room::put_all(b"SECURITY\n", out),
         6 => room::put_all(b"FINGERS\n", out),
         7 => room::put_all(b"FACE\n", out),
+        8 => room::put_all(b"PIVAUTH\n", out),
+        9 => room::put_all(b"DIGSIG\n", out),
+        10 => room::put_all(b"KEYMGMT\n", out),
+        11 => room::put_all(b"CARDAUTH\n", out),
         _ => room::put_all(b"\n", out),
     }
 }

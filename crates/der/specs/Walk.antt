@@ -24,6 +24,10 @@ sized t room (some l) =
     (cond (eqb (opens t) 1) (Open (1 + l .width) (1 + l .width + l .number)) (Leaf (1 + l .width + l .number)))
     Broken
 
+-- the same of a length that reads n in w bytes, with the tag's test before it
+abbrev pub headed : ℕ → ℕ → ℕ → ℕ → Head
+headed t room n w = cond (ltb (t % 32) 31) (sized t room (some (record { number = n; width = w }))) Broken
+
 unfoldable pub headOf : List ℕ → Head
 headOf [] = Broken
 headOf (t ∷ s) = cond (ltb (t % 32) 31) (sized t (length s) (readLength s)) Broken

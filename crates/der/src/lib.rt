@@ -2,7 +2,7 @@
 ghost use mathlib.Core.Path.{_≡_};
 ghost use Prim.Native.Nat.{_+_, _-_, _<_, _≤_};
 ghost use lib.ListN.{length, take, drop, getD};
-ghost use Rattle.der.specs.Walk.{headOf, items, judged, tally, certificate, depthFor};
+ghost use Rattle.der.specs.Walk.{headed, headOf, items, judged, tally, certificate, depthFor};
 use numbers::index;
 use numbers::number;
 use verdicts::Fault;
@@ -22,15 +22,44 @@ pub enum Walked {
     Deep,
 }
 
-// The same where the length takes more than one byte: its count stands in the first of them, without the bit 80 hex. A number of
-// more than eight bytes is longer than any slice.
-fn long_front(s: &[u8]) -> Head
-    ensures { λ r. ⌜ r ≡ headOf (now (s .entry)) ⌝ }
+// A tag, and a length of n in `width` bytes: that the tag is good and n bytes fit, where `room` bytes stand behind the tag.
+fn fitting(tag: usize, room: usize, n: usize, width: usize) -> Head
+    requires { ⌜ (width ≤ room) × (room < 18446744073709551615) ⌝ }
+    ensures { λ r. ⌜ r ≡ headed tag room n width ⌝ }
 {
-    if s.len() < 3 {
+    if 31 <= tag % 32 {
         return Head::Broken;
     }
-    TODO
+    if room - width < n {
+        return Head::Broken;
+    }
+    if tag / 32 % 2 == 1 {
+        return Head::Open(1 + width, 1 + width + n);
+    }
+    Head::Leaf(1 + width + n)
+}
+
+// Where the length takes more than one byte: its first holds 80 hex and how many follow. A number of more than eight bytes, none of
+// them a zero in front, is longer than any slice.
+fn long_front(s: &[u8]) -> Head
+    requires { ⌜ (1 < length (now s)) × (128 ≤ getD (now s) 1 0) ⌝ }
+    ensures { λ r. ⌜ r ≡ headOf (now (s .entry)) ⌝ }
+{
+    let k = index(s[1]) - 128;
+    if 8 < k {
+        return Head::Broken;
+    }
+    if s.len() - 2 < k {
+        return Head::Broken;
+    }
+    let n = number(s, 2, k) as usize;
+    if n < 128 {
+        return Head::Broken;
+    }
+    if s[2] == 0 {
+        return Head::Broken;
+    }
+    fitting(index(s[0]), s.len() - 1, n, 1 + k)
 }
 
 // The item at the front of what its surroundings still have: its tag, its length, and that it fits.
@@ -44,17 +73,7 @@ fn front(s: &[u8]) -> Head
     if 128 <= n {
         return long_front(s);
     }
-    let tag = index(s[0]);
-    if 31 <= tag % 32 {
-        return Head::Broken;
-    }
-    if s.len() - 2 < n {
-        return Head::Broken;
-    }
-    if tag / 32 % 2 == 1 {
-        return Head::Open(2, 2 + n);
-    }
-    Head::Leaf(2 + n)
+    fitting(index(s[0]), s.len() - 1, n, 1)
 }
 
 // One part more, where the open item is the outermost.
@@ -107,14 +126,25 @@ fn parts(v: &[u8], start: usize, stop: usize, depth: usize) -> Walked
     }
 }
 
+// How deep to go: there is room for sixteen ends.
+fn most(depth: usize) -> usize
+    ensures { λ r. ⌜ r ≡ depthFor depth ⌝ }
+{
+    if depth < 16 {
+        return depth;
+    }
+    16
+}
+
 // Whether v is one item, at most `depth` levels deep, and how many parts it has.
 pub fn item(v: &[u8], depth: usize) -> Walked
     ensures { λ r. ⌜ r ≡ judged (depthFor depth) (now (v .entry)) ⌝ }
 {
+    let deep = most(depth);
     if v.len() == 0 {
         return Walked::Bad;
     }
-    if depth == 0 {
+    if deep == 0 {
         return Walked::Deep;
     }
     match front(v) {
@@ -125,7 +155,7 @@ pub fn item(v: &[u8], depth: usize) -> Walked
             }
             Walked::Whole(0)
         }
-        Head::Open(first, size) => match parts(v, first, size, depth - 1) {
+        Head::Open(first, size) => match parts(v, first, size, deep - 1) {
             Walked::Bad => Walked::Bad,
             Walked::Deep => Walked::Deep,
             Walked::Whole(n) => {

@@ -1,4 +1,4 @@
-// The desk program: reads one digit for the kind, eight for today and a container from standard input, and prints the report,
+// The desk program: reads two digits for the kind, eight for today and a container from standard input, and prints the report,
 // or `refused N`. What it prints is said and proved in the crate printout; here it is read and written.
 ghost use Rattle.printout.specs.Printout.{Prints};
 use libc::STDERR_FILENO;
@@ -23,7 +23,7 @@ fn at_end() -> bool {
 }
 
 fn main() {
-    let mut input = [0u8; 32778];
+    let mut input = [0u8; 32779];
     let mut room = [0u8; 512];
     let got = io::read_full(STDIN_FILENO, &mut input);
     // a full buffer holds a container that is too large, whatever follows

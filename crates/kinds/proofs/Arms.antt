@@ -1,12 +1,13 @@
 -- An arm of a match answers by its two numbers, and a default by the numbers that it has passed. Assumes nothing.
-use Prim.Native.Nat.{ℕ, zero, suc, _+_, _≤_}
-use mathlib.Core.Path.{_≡_, refl, sym, ap, ap₂}
-use mathlib.Core.Bool.{cond}
+use Prim.Native.Nat.{ℕ, zero, suc, _+_, _-_, _≤_, _<_}
+use mathlib.Core.Path.{_≡_, refl, sym, ap, ap₂, _∙_}
+use mathlib.Core.Bool.{Bool, false, cond, _||_}
 use mathlib.Core.List.{List, [], _∷_}
 use native.Mathlib.Omega.{arith}
-use lib.ListN.{length, getD, drop, drop-of-length-le, List·getD-eq-default}
+use lib.Dec.{eqb}
+use lib.ListN.{length, getD, take, drop, drop-of-length-le, List·getD-eq-default}
 use borrow.Author.Tests.{ne-eqb}
-use Rattle.kinds.specs.Tables.{Table, tables, table, find, rowOf, first, rowAt, lastOf, lastRow}
+use Rattle.kinds.specs.Tables.{Table, certificate, tables, table, find, rowOf, first, rowAt, lastOf, lastRow}
 use Rattle.kinds.specs.declared.Row.the-variants.{Missing}
 use Rattle.kinds.specs.declared.Slot.the-variants.{End}
 
@@ -40,10 +41,53 @@ none-listed l d (suc n) h =
     let g = past l 1 (suc n) Unit (λ u. omega arith) h in
     sym (List·getD-eq-default l d {n = n} (omega arith))
 
+-- ---- by a list of numbers
+
+abbrev pub among : List ℕ → ℕ → Bool
+among [] n = false
+among (k ∷ ks) n = eqb n k || among ks n
+
+passed : (ks : List ℕ) (n : ℕ) (A : Type 0) → Others ks n A → A
+passed [] n A h = h
+passed (k ∷ ks) n A h = passed ks n (A × (n ≡ k → ⊥)) h .0
+
+pub none-among : (ks : List ℕ) (n : ℕ) (A : Type 0) → Others ks n A → among ks n ≡ false
+none-among [] n A h = refl
+none-among (k ∷ ks) n A h =
+    let B : Type 0 = A × (n ≡ k → ⊥) in
+    rw (ne-eqb n k (passed ks n B h .1)) (none-among ks n B h)
+
+-- ---- a kind's table
+
+pub of-kind : {k kind : ℕ} → kind ≡ k → table k ≡ table kind
+of-kind p = ap table (sym p)
+
+-- a number that is none of the kinds has no rows
+pub none-below : (kind : ℕ) → kind < 1 → [] ≡ table kind
+none-below zero h = refl
+none-below (suc k) h = absurd (omega arith)
+
+pub none-above : (kind : ℕ) → 12 ≤ kind → [] ≡ table kind
+none-above kind h = sym (List·getD-eq-default ([] ∷ tables) [] {n = kind} h)
+
+-- the kinds from 8 to 11 have one table
+one-of-four : (k : ℕ) → k < 4 → certificate ≡ table (8 + k)
+one-of-four zero h = refl
+one-of-four (suc zero) h = refl
+one-of-four (suc (suc zero)) h = refl
+one-of-four (suc (suc (suc zero))) h = refl
+one-of-four (suc (suc (suc (suc k)))) h = absurd (omega arith)
+
+pub certificates : (kind : ℕ) → Others (numbered 1 (take 7 tables)) kind Unit → 1 ≤ kind → kind < 12 → certificate ≡ table kind
+certificates kind h p q =
+    let g = past (take 7 tables) 1 kind Unit (λ u. p) h in
+    let e : 8 + (kind - 8) ≡ kind = omega arith in
+    one-of-four (kind - 8) (omega arith) ∙ ap table e
+
 -- ---- by the tag
 
-pub arm : {k t kind tag : ℕ} → kind ≡ k → tag ≡ t → rowOf k t ≡ rowOf kind tag
-arm p q = ap₂ rowOf (sym p) (sym q)
+pub arm : {rows these : Table} {t tag : ℕ} → rows ≡ these → tag ≡ t → find 0 0 rows t ≡ find 0 0 these tag
+arm e q = ap₂ (find 0 0) e (sym q)
 
 inner : (rs : Table) (t : ℕ) (A : Type 0) → Rest rs t A → A
 inner [] t A h = h
@@ -55,28 +99,15 @@ none-of (r ∷ rs) t A i from h =
     rw (ne-eqb t (r .tag) (inner rs t (A × (t ≡ r .tag → ⊥)) h .1))
     (none-of rs t (A × (t ≡ r .tag → ⊥)) (i + 1) (cond (r .optional) from (i + 1)) h)
 
-pub default : (k kind tag : ℕ) → kind ≡ k → Rest (table k) tag Unit → Missing ≡ rowOf kind tag
-default k kind tag p h = rw p (none-of (table k) tag Unit 0 0 h)
-
-pub no-kind : (kind tag : ℕ) → Others (numbered 1 tables) kind Unit → Missing ≡ rowOf kind tag
-no-kind kind tag h = ap (λ (rows : Table). find 0 0 rows tag) (none-listed tables [] kind h)
-
-pub no-last : (kind : ℕ) → Others (numbered 1 tables) kind Unit → 0 ≡ lastRow kind
-no-last kind h = ap (lastOf 0 0) (none-listed tables [] kind h)
+pub default : {rows these : Table} (tag : ℕ) → rows ≡ these → Rest rows tag Unit → Missing ≡ find 0 0 these tag
+default {rows} tag e h = none-of rows tag Unit 0 0 h ∙ ap (λ (rs : Table). find 0 0 rs tag) e
 
 -- ---- by the row's number
 
-pub at-arm : {k i kind index : ℕ} → kind ≡ k → index ≡ i → rowAt k i ≡ rowAt kind index
-at-arm p q = ap₂ rowAt (sym p) (sym q)
+pub at-arm : {rows these : Table} {i index : ℕ} → rows ≡ these → index ≡ i → first (drop i rows) ≡ first (drop index these)
+at-arm e q = ap₂ (λ (i : ℕ) (rs : Table). first (drop i rs)) (sym q) e
 
-pub at-default : (k kind index : ℕ) → kind ≡ k → Others (numbered 0 (table k)) index Unit → End ≡ rowAt kind index
-at-default k kind index p h =
-    let l : length (table k) ≤ index = let q = past (table k) 0 index Unit (λ a. omega arith) h in omega arith in
-    rw (p, drop-of-length-le (table k) l)
-
-none-left : (index : ℕ) → End ≡ first (drop index [])
-none-left zero = refl
-none-left (suc n) = refl
-
-pub at-no-kind : (kind index : ℕ) → Others (numbered 1 tables) kind Unit → End ≡ rowAt kind index
-at-no-kind kind index h = rw (← none-listed tables [] kind h) (none-left index)
+pub at-default : {rows these : Table} (index : ℕ) → rows ≡ these → Others (numbered 0 rows) index Unit → End ≡ first (drop index these)
+at-default {rows} index e h =
+    let l : length rows ≤ index = let q = past rows 0 index Unit (λ a. omega arith) h in omega arith in
+    sym (ap first (drop-of-length-le rows l)) ∙ ap (λ (rs : Table). first (drop index rs)) e

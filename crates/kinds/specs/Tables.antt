@@ -1,4 +1,4 @@
--- 01, "Container form": the tables of the seven kinds, in 01's order, and what a table says of a tag and of a row's number.
+-- 01, "Container form", and request 2026-04: the tables of the eleven kinds, in their order, and what a table says of a tag and of a row's number.
 use Prim.Native.Nat.{ℕ, _+_, _≤_}
 use mathlib.Core.Path.{_≡_}
 use mathlib.Core.Logic.{_⊎_}
@@ -7,7 +7,7 @@ use mathlib.Core.List.{List, [], _∷_}
 use lib.Dec.{leb, eqb}
 use lib.ListN.{drop, getD}
 use Rattle.kinds.specs.declared.ValueRule.{ValueRule}
-use Rattle.kinds.specs.declared.ValueRule.the-variants.{Free, Fascn, Uuid, Expiry, Model, Application, Policy, Text, Date, Fingers, Face}
+use Rattle.kinds.specs.declared.ValueRule.the-variants.{Free, Fascn, Uuid, Expiry, Model, Application, Policy, Text, Date, Fingers, Face, Certificate, CertInfo}
 use Rattle.kinds.specs.declared.Row.{Row}
 use Rattle.kinds.specs.declared.Row.the-variants.{At, Missing}
 use Rattle.kinds.specs.declared.Slot.{Slot}
@@ -139,19 +139,29 @@ face =
     ∷ must 0xFE (exactly 0) Free
     ∷ []
 
--- "1 CCC, 2 CHUID, 3 DISCOVERY, 4 PRINTED, 5 SECURITY, 6 FINGERS, 7 FACE"
+-- 2026-04: "Four new kinds: PIV authentication, digital signature, key management, card authentication. Rows 70 any length, 71 length 1 and value 00,
+-- 72 optional 0 to 38, FE 0."
+abbrev pub certificate : Table
+certificate =
+    must 0x70 any Certificate
+    ∷ must 0x71 (exactly 1) CertInfo
+    ∷ may 0x72 (upTo 38) Free
+    ∷ must 0xFE (exactly 0) Free
+    ∷ []
+
+-- "1 CCC, 2 CHUID, 3 DISCOVERY, 4 PRINTED, 5 SECURITY, 6 FINGERS, 7 FACE"; 2026-04: "Kind numbers 8 to 11"
 abbrev pub tables : List Table
-tables = ccc ∷ chuid ∷ discovery ∷ printed ∷ security ∷ fingers ∷ face ∷ []
+tables = ccc ∷ chuid ∷ discovery ∷ printed ∷ security ∷ fingers ∷ face ∷ certificate ∷ certificate ∷ certificate ∷ certificate ∷ []
 
 -- a number that is no kind has no rows
 abbrev pub table : ℕ → Table
 table kind = getD ([] ∷ tables) kind []
 
 abbrev pub IsKind : ℕ → Type 0
-IsKind kind = (1 ≤ kind) × (kind ≤ 7)
+IsKind kind = (1 ≤ kind) × (kind ≤ 11)
 
 abbrev pub isKind : ℕ → Bool
-isKind kind = leb 1 kind && leb kind 7
+isKind kind = leb 1 kind && leb kind 11
 
 -- ---- what the code asks of a table
 

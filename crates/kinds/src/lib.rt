@@ -1,4 +1,4 @@
-// The tables of the seven kinds: which row a tag has, which tag a row has, and which row is the last that must be there.
+// The tables of the eleven kinds: which row a tag has, which tag a row has, and which row is the last that must be there.
 ghost use mathlib.Core.Path.{_≡_};
 ghost use Rattle.kinds.specs.Tables.{isKind, rowOf, rowAt, lastRow};
 
@@ -15,6 +15,8 @@ pub enum ValueRule {
     Date,
     Fingers,
     Face,
+    Certificate,
+    CertInfo,
 }
 
 // What a kind's table says of a tag.
@@ -32,11 +34,11 @@ pub enum Slot {
     End,
 }
 
-// "1: kind not 1 to 7"
+// "1: kind not 1 to 7"; 2026-04: "1 now begins above 11"
 pub fn is_kind(kind: u64) -> bool
     ensures { λ r. ⌜ r ≡ isKind kind ⌝ }
 {
-    (1 <= kind) & (kind <= 7)
+    (1 <= kind) & (kind <= 11)
 }
 
 pub fn row_of(kind: u64, tag: u64) -> Row
@@ -103,6 +105,13 @@ pub fn row_of(kind: u64, tag: u64) -> Row
         7 => match tag {
             0xBC => Row::At(1, 0, 88, 65535, false, ValueRule::Face),
             0xFE => Row::At(2, 1, 0, 0, false, ValueRule::Free),
+            _ => Row::Missing,
+        },
+        8..=11 => match tag {
+            0x70 => Row::At(1, 0, 0, 65535, false, ValueRule::Certificate),
+            0x71 => Row::At(2, 1, 1, 1, false, ValueRule::CertInfo),
+            0x72 => Row::At(3, 2, 0, 38, false, ValueRule::Free),
+            0xFE => Row::At(4, 2, 0, 0, false, ValueRule::Free),
             _ => Row::Missing,
         },
         _ => Row::Missing,
@@ -176,6 +185,13 @@ pub fn row_at(kind: u64, index: u64) -> Slot
             1 => Slot::Holds(0xFE, false),
             _ => Slot::End,
         },
+        8..=11 => match index {
+            0 => Slot::Holds(0x70, false),
+            1 => Slot::Holds(0x71, false),
+            2 => Slot::Holds(0x72, true),
+            3 => Slot::Holds(0xFE, false),
+            _ => Slot::End,
+        },
         _ => Slot::End,
     }
 }
@@ -192,6 +208,7 @@ pub fn last_row(kind: u64) -> u64
         5 => 3,
         6 => 2,
         7 => 2,
+        8..=11 => 4,
         _ => 0,
     }
 }

@@ -11,9 +11,10 @@ use lib.ListN.{length, getD}
 use borrow.Author.Tests.{eqb-true, not-true}
 use Rattle.laws.specs.Tests.{allBelow}
 use Rattle.laws.proofs.Cases.{and-true, along}
+use Rattle.kinds.proofs.Arms.{Others, among, none-among}
 use Rattle.kinds.specs.Tables.{Lengths, Entry, Table, table, Permitted}
 use Rattle.kinds.specs.declared.ValueRule.{ValueRule}
-use Rattle.kinds.specs.declared.ValueRule.the-variants.{Free, Fascn, Uuid, Expiry, Model, Application, Policy, Text, Date, Fingers, Face}
+use Rattle.kinds.specs.declared.ValueRule.the-variants.{Free, Fascn, Uuid, Expiry, Model, Application, Policy, Text, Date, Fingers, Face, Certificate, CertInfo}
 use Rattle.rules.specs.Rules.{Keeps}
 use Rattle.container.specs.Container.{Values, Allowed}
 use Rattle.opens.specs.Open.{Opening, opensNone, opensModel, opensCard, opensPolicy, opensIssuer, opensHolder, openings, taggedValue}
@@ -22,7 +23,7 @@ use Rattle.opens.proofs.Valued.{taggedRow, value-fits}
 -- ---- two rules are told apart by their places in a list
 
 rules : List ValueRule
-rules = Free ∷ Fascn ∷ Uuid ∷ Expiry ∷ Model ∷ Application ∷ Policy ∷ Text ∷ Date ∷ Fingers ∷ Face ∷ []
+rules = Free ∷ Fascn ∷ Uuid ∷ Expiry ∷ Model ∷ Application ∷ Policy ∷ Text ∷ Date ∷ Fingers ∷ Face ∷ Certificate ∷ CertInfo ∷ []
 
 abbrev place : ValueRule → ℕ
 place Free = 0
@@ -36,6 +37,8 @@ place Text = 7
 place Date = 8
 place Fingers = 9
 place Face = 10
+place Certificate = 11
+place CertInfo = 12
 
 placed : (r : ValueRule) → getD rules (place r) Free ≡ r
 unfolding rules
@@ -52,6 +55,8 @@ placed r =
       | Date ↦ refl
       | Fingers ↦ refl
       | Face ↦ refl
+      | Certificate ↦ refl
+      | CertInfo ↦ refl
     ]
 
 same-rule : (r s : ValueRule) → eqb (place r) (place s) ≡ true → r ≡ s
@@ -105,3 +110,31 @@ sound (opensHolder tag) rows = ruledBy Fingers (taggedRow rows tag) || ruledBy F
 pub sound-kind : (kind : ℕ) → sound (opening kind) (table kind) ≡ true
 unfolding allBelow
 sound-kind kind = along (opensNone ∷ openings) opensNone (λ k o. sound o (table k)) refl (λ k. refl) kind
+
+-- ---- the kinds of which nothing is open
+
+abbrev isNone : Opening → Bool
+isNone opensNone = true
+isNone opensModel = false
+isNone (opensCard fascn expiry) = false
+isNone (opensPolicy tag) = false
+isNone (opensIssuer tag) = false
+isNone (opensHolder tag) = false
+
+none-is : (o : Opening) (b : Bool) → b ≡ false → (isNone o || b) ≡ true → opensNone ≡ o
+none-is opensNone b f e = refl
+none-is opensModel b f e = absurd (true≢false (sym e ∙ f))
+none-is (opensCard fascn expiry) b f e = absurd (true≢false (sym e ∙ f))
+none-is (opensPolicy tag) b f e = absurd (true≢false (sym e ∙ f))
+none-is (opensIssuer tag) b f e = absurd (true≢false (sym e ∙ f))
+none-is (opensHolder tag) b f e = absurd (true≢false (sym e ∙ f))
+
+-- all but these
+abbrev somethingOpen : List ℕ
+somethingOpen = 1 ∷ 2 ∷ 3 ∷ 4 ∷ 6 ∷ 7 ∷ []
+
+pub nothing-open : (kind : ℕ) → Others somethingOpen kind Unit → opensNone ≡ opening kind
+unfolding allBelow
+nothing-open kind h =
+    none-is (opening kind) (among somethingOpen kind) (none-among somethingOpen kind Unit h)
+    (along (opensNone ∷ openings) opensNone (λ k o. isNone o || among somethingOpen k) refl (λ k. refl) kind)

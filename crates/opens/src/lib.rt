@@ -81,8 +81,8 @@ fn put_biometric(v: &[u8], out: &mut [u8]) -> usize
     put_holder(b"OPEN 2\nagency ", numbers.agency, numbers.system, out)
 }
 
-// "CCC `model 10`"; "SECURITY none"; the others from the values of the rows that are open, by their numbers from 0. The values
-// have to be allowed under some date, so that an expiry is a date.
+// "CCC `model 10`"; of SECURITY and of the certificates nothing; the others from the values of the rows that are open, by their
+// numbers from 0. The values have to be allowed under some date, so that an expiry is a date.
 pub fn put_open(kind: u64, c: &[u8], map: Map, out: &mut [u8]) -> usize
     requires { ⌜ Inside (map .from) (map .to) (length (now c)) ⌝ }
     requires { ⌜ ((today : ℕ) × Allowed today (table kind) (rowValues (map .from) (map .to) (now c) (length (table kind)) 0)) ⌝ }
@@ -93,7 +93,6 @@ pub fn put_open(kind: u64, c: &[u8], map: Map, out: &mut [u8]) -> usize
         2 => put_chuid(container::part(c, map, 1), container::part(c, map, 5), out),
         3 => put_policy(container::part(c, map, 1), out),
         4 => put_issuer(container::part(c, map, 4), out),
-        5 => room::put_all(b"OPEN 0\n", out),
         6 => put_biometric(container::part(c, map, 0), out),
         7 => put_biometric(container::part(c, map, 0), out),
         _ => room::put_all(b"OPEN 0\n", out),

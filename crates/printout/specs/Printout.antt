@@ -1,12 +1,13 @@
 -- 01: "The desk program reads standard input: one digit for the kind, eight for today, then a container of up to 32,768 bytes; it prints the report, or
--- `refused N`. No bytes at all, or a first byte that is not 1 to 7, is refusal 1; a date cut short or not all digits is 2."
-use Prim.Native.Nat.{ℕ, _+_, _-_}
+-- `refused N`. No bytes at all, or a first byte that is not 1 to 7, is refusal 1; a date cut short or not all digits is 2." Of the kind 2026-04 says:
+-- "given as two digits to the program, as are all kinds from then on (01 to 11; a lone byte or another pair is 1)"
+use Prim.Native.Nat.{ℕ, _+_, _-_, _*_, _/_, _%_}
 use mathlib.Core.Path.{_≡_}
-use mathlib.Core.Bool.{cond}
+use mathlib.Core.Bool.{cond, _&&_}
 use mathlib.Core.List.{List, [], _∷_, _++_}
 use lib.ListN.{length, take, drop}
 use Rattle.texts.specs.Text.{ascii, digit, decimal}
-use Rattle.dates.specs.Date.{IsTextOf, dateOf}
+use Rattle.dates.specs.Date.{IsTextOf, isDigit, dateOf}
 use Rattle.dates.specs.declared.Date.{Date}
 use Rattle.dates.specs.declared.Date.the-variants.{Is, Not}
 use Rattle.kinds.specs.Tables.{isKind}
@@ -18,10 +19,11 @@ use Rattle.report.specs.Calls.{reportOutput}
 
 -- ---- what is printed for an input that was read, with a room of so many bytes for the report
 
--- the first byte as a digit; 0, which is no kind, where there is none
-abbrev pub kindDigit : List ℕ → ℕ
-kindDigit [] = 0
-kindDigit (b ∷ s) = b - 48
+-- the number that the first two bytes write; 0, which is no kind, where they are not two digits
+abbrev pub kindOf : List ℕ → ℕ
+kindOf [] = 0
+kindOf (a ∷ []) = 0
+kindOf (a ∷ b ∷ s) = cond (isDigit a && isDigit b) ((a - 48) * 10 + (b - 48)) 0
 
 abbrev pub dated : ℕ → Date → List ℕ → ℕ → Output
 dated kind Not c room = refusal (found NoDate 0)
@@ -29,7 +31,7 @@ dated kind (Is today) c room = reportOutput kind today c room
 
 -- "A bad kind wins over everything, a bad date over a container that is too long"
 unfoldable pub deskOutput : List ℕ → ℕ → Output
-deskOutput s room = cond (isKind (kindDigit s)) (dated (kindDigit s) (dateOf (take 8 (drop 1 s))) (drop 9 s) room) (refusal (found UnknownKind 0))
+deskOutput s room = cond (isKind (kindOf s)) (dated (kindOf s) (dateOf (take 8 (drop 2 s))) (drop 10 s) room) (refusal (found UnknownKind 0))
 
 unfoldable pub refusedText : ℕ → List ℕ
 refusedText n = ascii "refused " ++ decimal n ++ 10 ∷ []
@@ -41,10 +43,11 @@ shown (text t) = t
 unfoldable pub deskText : List ℕ → ℕ → List ℕ
 deskText s room = shown (deskOutput s room)
 
--- ---- the program: "the desk program's input buffer is one zero-filled array of that many bytes and ten more; the report's is [0; 512]"
+-- ---- the program: "the desk program's input buffer is one zero-filled array of that many bytes and ten more; the report's is [0; 512]". With two digits
+-- for the kind ten bytes stand before the container, where there were nine, so it is eleven more.
 
 abbrev pub inputSize : ℕ
-inputSize = largest + 10
+inputSize = largest + 11
 
 abbrev pub reportRoom : ℕ
 reportRoom = 512
@@ -60,8 +63,12 @@ pub record Prints (buffer : List ℕ) (got : ℕ) (bytes : List ℕ) : Type 0 wh
 abbrev pub printed : List ℕ → List ℕ
 printed s = deskText (take inputSize s) reportRoom
 
--- an input in 01's words: "one digit for the kind, eight for today, then a container"
+-- a kind as two digits: tens and units. Of a number from 100 on, which is no kind, the first would be no digit.
+abbrev pub kindText : ℕ → List ℕ
+kindText kind = digit (kind / 10) ∷ digit (kind % 10) ∷ []
+
+-- an input in the words of 01 and 2026-04: two digits "for the kind, eight for today, then a container"
 pub record Asks (s : List ℕ) (kind today : ℕ) (c : List ℕ) : Type 0 where
   pub date : List ℕ
   pub date-is : IsTextOf date today
-  pub written : s ≡ digit kind ∷ (date ++ c)
+  pub written : s ≡ kindText kind ++ date ++ c

@@ -3,21 +3,22 @@ ghost use mathlib.Core.Path.{_≡_};
 ghost use Prim.Native.Nat.{_<_};
 ghost use lib.ListN.{length};
 ghost use Rattle.laws.specs.Room.{zeros, Put};
-ghost use Rattle.printout.specs.Printout.{kindDigit, deskText, refusedText};
+ghost use Rattle.printout.specs.Printout.{kindOf, deskText, refusedText};
 use dates::Date;
 
-// The kind's digit as a number; 0 where there is none.
-fn kind_digit(input: &[u8]) -> u64
-    ensures { λ r. ⌜ r ≡ kindDigit (now (input .entry)) ⌝ }
+// The kind by its two digits; 0, which is no kind, where there are not two.
+fn kind_of(input: &[u8]) -> u64
+    ensures { λ r. ⌜ r ≡ kindOf (now (input .entry)) ⌝ }
 {
-    if input.len() == 0 {
+    if input.len() < 2 {
         return 0;
     }
-    let b = numbers::wide(input[0]);
-    if b < 48 {
-        return 0;
+    let tens = numbers::wide(input[0]);
+    let units = numbers::wide(input[1]);
+    if (48 <= tens) & (tens <= 57) & (48 <= units) & (units <= 57) {
+        return (tens - 48) * 10 + (units - 48);
     }
-    b - 48
+    0
 }
 
 // `refused N`, and a line end.
@@ -43,17 +44,17 @@ fn refuse(number: u64, room: &mut [u8]) -> usize
 pub fn answer(input: &[u8], room: &mut [u8]) -> usize
     ensures { λ r. ⌜ Put (deskText (now (input .entry)) (length (now (room .entry)))) (zeros (length (now (room .entry)))) (now (room .exit)) r ⌝ }
 {
-    let kind = kind_digit(input);
+    let kind = kind_of(input);
     if !kinds::is_kind(kind) {
         return refuse(1, room);
     }
-    if input.len() < 9 {
+    if input.len() < 10 {
         return refuse(2, room);
     }
-    let Date::Is(today) = dates::date_of(&input[1..9]) else {
+    let Date::Is(today) = dates::date_of(&input[2..10]) else {
         return refuse(2, room);
     };
-    let done = prosianek::report(kind, today, &input[9..], room);
+    let done = prosianek::report(kind, today, &input[10..], room);
     if done.number != 0 {
         return put_refused(done.number, room);
     }

@@ -9,11 +9,10 @@ use mathlib.Core.Logic.{_⊎_, _↔_}
 use mathlib.Core.Path.{_≡_}
 use mathlib.Core.Bool.{Bool}
 use mathlib.Core.Option.{none, some}
-use mathlib.Core.List.{List, [], _∷_}
+use mathlib.Core.List.{List, []}
 use lib.ListN.{length, take, drop, getD}
 use Rattle.laws.specs.Bytes.{Bytes}
 use Rattle.laws.specs.Room.{zeros, filled}
-use Rattle.texts.specs.Text.{digit}
 use Rattle.dates.specs.Date.{IsDate, IsTextDate}
 use Rattle.fascn.specs.Fascn.{IsFascnOf, IsFascn}
 use Rattle.fascn.specs.Calls.{noNumbers}
@@ -35,7 +34,7 @@ use Rattle.opens.specs.Open.{agencyOf, systemOf, openOf}
 use Rattle.report.specs.Report.{reportText}
 use Rattle.views.specs.Views.{placeOf}
 use Rattle.prosianek.specs.Calls.{Checks, Reads, Writes, Views, Reports, Decodes, Encodes}
-use Rattle.printout.specs.Printout.{refusedText, printed, Asks}
+use Rattle.printout.specs.Printout.{refusedText, printed, kindText, Asks}
 use Rattle.capi.specs.Calls.{CChecks, CReads, CWrites, CViews, CReports, CDecodes, CEncodes}
 
 -- ---- Demand 1. "Every byte string, date and room size gets an answer, and every call ends. Bad input is refused by number, without the caller having
@@ -176,8 +175,8 @@ pub record AtTheDesk : Type 0 where
   -- what is printed: the report, for a kind, a date and a container of at most 32,768 bytes; else a refusal, which tells its number and nothing else
   pub report-printed : (s : List ℕ) (kind today : ℕ) (c : List ℕ) → Bytes c → Asks s kind today c → IsKind kind → length c ≤ largest
       → printed s ≡ reportText kind today (length c) (parsed kind today c)
-  pub kind-refused : (s : List ℕ) → ((kind : ℕ) → IsKind kind → take 1 s ≡ digit kind ∷ [] → ⊥) → printed s ≡ refusedText (numberOf UnknownKind)
-  pub date-refused : (s : List ℕ) (kind : ℕ) → IsKind kind → take 1 s ≡ digit kind ∷ [] → (IsTextDate (take 8 (drop 1 s)) → ⊥)
+  pub kind-refused : (s : List ℕ) → ((kind : ℕ) → IsKind kind → take 2 s ≡ kindText kind → ⊥) → printed s ≡ refusedText (numberOf UnknownKind)
+  pub date-refused : (s : List ℕ) (kind : ℕ) → IsKind kind → take 2 s ≡ kindText kind → (IsTextDate (take 8 (drop 2 s)) → ⊥)
       → printed s ≡ refusedText (numberOf NoDate)
   pub size-refused : (s : List ℕ) (kind today : ℕ) (c : List ℕ) → Asks s kind today c → IsKind kind → largest < length c
       → printed s ≡ refusedText (numberOf LargeContainer)

@@ -1,9 +1,9 @@
--- The examples of document 01, P1 to P14, and further rows, as one table: what each row says, over the rules themselves, and the table.
-use Prim.Native.Nat.{ℕ}
+-- The examples of document 01, P1 to P14, those of request 2026-04, and further rows, as one table: what each row says, over the rules themselves, and the table.
+use Prim.Native.Nat.{ℕ, zero, suc}
 use mathlib.Core.Path.{_≡_}
-use mathlib.Core.Option.{none, some}
+use mathlib.Core.Option.{Option, none, some}
 use mathlib.Core.List.{List, [], _∷_, _++_}
-use lib.ListN.{replicate}
+use lib.ListN.{length, replicate}
 use Rattle.fascn.specs.Fascn.{IsFascnOf, IsFascn}
 use Rattle.fascn.specs.declared.Numbers.{Numbers}
 use Rattle.lengths.specs.Length.{Spells}
@@ -111,6 +111,29 @@ fingers quality = container 6 (some (cbeffHead 38 0x02 0x08 0x80 quality ++ (rec
 abbrev face : ℕ → List ℕ
 face quality = container 7 (some (cbeffHead 1 0x05 0x02 0x20 quality ++ (0xFF ∷ 0x30 ∷ [])) ∷ some [] ∷ [])
 
+-- DER items of fewer than 128 bytes: a tag with its contents; nothing, as an item; an item inside so many SEQUENCEs
+abbrev item : ℕ → List ℕ → List ℕ
+item tag contents = tag ∷ length contents ∷ contents
+
+abbrev null : List ℕ
+null = item 0x05 []
+
+abbrev nested : ℕ → List ℕ → List ℕ
+nested zero s = s
+nested (suc n) s = item 0x30 (nested n s)
+
+-- an item of three parts, its tag and its first part given
+abbrev three : ℕ → List ℕ → List ℕ
+three tag part = item tag (part ++ (null ++ null))
+
+-- the container of a certificate: its kind, and the values of 70, 71 and 72
+abbrev certified : ℕ → List ℕ → ℕ → Option (List ℕ) → List ℕ
+certified kind certificate info uid = container kind (some certificate ∷ some (info ∷ []) ∷ uid ∷ some [] ∷ [])
+
+-- with nothing but the certificate
+abbrev bare : List ℕ → List ℕ
+bare certificate = certified 8 certificate 0x00 none
+
 -- ---- the table
 
 unfoldable pub examples : List Example
@@ -155,4 +178,33 @@ examples =
     ∷ breaks 5 (security ++ (0 ∷ [])) 12 0
     ∷ breaks 3 (0x7E ∷ 0x02 ∷ 0x5F ∷ 0x00 ∷ []) 13 2
     ∷ breaks 5 (0x53 ∷ 0x04 ∷ 0xBA ∷ 0x00 ∷ 0xBB ∷ 0x00 ∷ []) 15 6
+    -- 2026-04: the least certificate, of each of the four kinds; no kind 12
+    ∷ conforms 8 (certified 8 (three 0x30 null) 0x00 none)
+    ∷ conforms 9 (certified 9 (three 0x30 null) 0x00 none)
+    ∷ conforms 10 (certified 10 (three 0x30 null) 0x00 none)
+    ∷ conforms 11 (certified 11 (three 0x30 null) 0x00 none)
+    ∷ breaks 12 (bare (three 0x30 null)) 1 0
+    -- an item at level 8, and at level 9; at level 9 half an item too
+    ∷ conforms 8 (bare (three 0x30 (nested 6 null)))
+    ∷ breaks 8 (bare (three 0x30 (nested 7 null))) 25 2
+    ∷ breaks 8 (bare (three 0x30 (nested 6 (item 0x30 (0x05 ∷ []))))) 25 2
+    -- a tag of number 31; at level 9 the level comes first, and a bad item before it first of all
+    ∷ breaks 8 (bare (three 0x30 (item 0x1F []))) 24 2
+    ∷ breaks 8 (bare (three 0x30 (nested 7 (item 0x1F [])))) 25 2
+    ∷ breaks 8 (bare (item 0x30 (item 0x1F [] ++ (nested 7 null ++ null)))) 24 2
+    -- a SET outside; two parts, and four; a fourth that is too deep: the three are judged last
+    ∷ breaks 8 (bare (three 0x31 null)) 24 2
+    ∷ breaks 8 (bare (item 0x30 (null ++ null))) 24 2
+    ∷ breaks 8 (bare (item 0x30 (null ++ (null ++ (null ++ null))))) 24 2
+    ∷ breaks 8 (bare (item 0x30 (null ++ (null ++ (null ++ nested 7 null))))) 25 2
+    -- 127 as 81 7F; an indefinite length; a part that runs past its item; a byte behind the outermost item; no bytes at all
+    ∷ breaks 8 (bare (three 0x30 (0x04 ∷ 0x81 ∷ 0x7F ∷ replicate 100 0))) 24 2
+    ∷ breaks 8 (bare (0x30 ∷ 0x80 ∷ (null ++ (null ++ (null ++ (0 ∷ 0 ∷ [])))))) 24 2
+    ∷ breaks 8 (bare (three 0x30 (0x30 ∷ 0x02 ∷ 0x05 ∷ 0x04 ∷ []))) 24 2
+    ∷ breaks 8 (bare (three 0x30 null ++ (0 ∷ []))) 24 2
+    ∷ breaks 8 (bare []) 24 2
+    -- 71 other than 00; 72 of 38 bytes, and of 39
+    ∷ breaks 9 (certified 9 (three 0x30 null) 0x01 none) 20 12
+    ∷ conforms 10 (certified 10 (three 0x30 null) 0x00 (some (replicate 38 0x41)))
+    ∷ breaks 10 (certified 10 (three 0x30 null) 0x00 (some (replicate 39 0x41))) 16 15
     ∷ []

@@ -17,7 +17,7 @@ use Rattle.verdicts.specs.declared.Fault.the-variants.{BadFascn, BadUuid, BadDa
 use Rattle.verdicts.specs.declared.Ruling.{Ruling}
 use Rattle.verdicts.specs.declared.Ruling.the-variants.{Kept, Breaks}
 use Rattle.kinds.specs.declared.ValueRule.{ValueRule}
-use Rattle.kinds.specs.declared.ValueRule.the-variants.{Free, Fascn, Uuid, Expiry, Model, Application, Policy, Text, Date, Fingers, Face}
+use Rattle.kinds.specs.declared.ValueRule.the-variants.{Free, Fascn, Uuid, Expiry, Model, Application, Policy, Text, Date, Fingers, Face, Certificate, CertInfo}
 use Rattle.dates.specs.Date.{IsTextDate, dateOf, inWindow}
 use Rattle.dates.specs.declared.Date.{Date as TextDate}
 use Rattle.dates.specs.declared.Date.the-variants.{Is, Not}
@@ -29,7 +29,9 @@ use Rattle.plain.specs.Plain.{isUuid, isPolicy, isText}
 use Rattle.plain.proofs.Exact.{uuid-exact, policy-exact, text-exact as printed-exact}
 use Rattle.cbeff.specs.Header.{header, fingers, face}
 use Rattle.cbeff.proofs.Exact.{fingers-exact, face-exact, first-broken-exact}
-use Rattle.rules.specs.Rules.{model, application, Keeps, Violates, expires, dated, ruleOf}
+use Rattle.der.proofs.Exact.{certificate-exact}
+use Rattle.der.proofs.Faults.{certificate-refused}
+use Rattle.rules.specs.Rules.{model, application, certInfo, certificateDepth, Keeps, Violates, expires, dated, ruleOf}
 
 no-kept : {f : Fault} → Breaks f ≡ Kept → ⊥
 no-kept e = let z : _≡_ {A = ℕ} 0 1 = cc in omega arith
@@ -78,6 +80,8 @@ value-exact Text today v b = by-test _ _ (printed-exact v)
 value-exact Date today v b = by-date v (dateOf v) refl
 value-exact Fingers today v b = by-judge (judge (header fingers (length v)) 0 v) (fingers-exact v b)
 value-exact Face today v b = by-judge (judge (header face (length v)) 0 v) (face-exact v b)
+value-exact Certificate today v b = certificate-exact certificateDepth v b
+value-exact CertInfo today v b = by-test _ _ (same-exact v certInfo)
 
 -- ---- a broken rule
 
@@ -119,3 +123,5 @@ broken-exact Text today v b f = one-fault BadText f _ (of-test BadText (isText v
 broken-exact Date today v b f = one-fault BadDate f _ (of-date (dateOf v)) (value-exact Date today v b)
 broken-exact Fingers today v b f = first-of (judge (header fingers (length v)) 0 v) f (first-broken-exact fingers v b f)
 broken-exact Face today v b f = first-of (judge (header face (length v)) 0 v) f (first-broken-exact face v b f)
+broken-exact Certificate today v b f = certificate-refused certificateDepth v f b
+broken-exact CertInfo today v b f = one-fault BadFixed f _ (of-test BadFixed (same v certInfo)) (value-exact CertInfo today v b)

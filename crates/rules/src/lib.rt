@@ -39,9 +39,9 @@ fn date(d: Date) -> Ruling
     }
 }
 
-// Whether a value keeps the rule under the date today, or which fault it has. The judge of the biometric records stays a
-// call: it gets a part that is made for it, and its answer goes through a local, so that the compiler keeps the value and
-// the answer of every other rule in registers.
+// Whether a value keeps the rule under the date today, or which fault it has. The judges of the biometric records and of
+// certificates stay calls: they get a part that is made for them, and their answer goes through a local, so that the compiler
+// keeps the value and the answer of every other rule in registers.
 pub fn judge(rule: ValueRule, today: u64, v: &[u8]) -> Ruling
     ensures { λ r. ⌜ r ≡ ruleOf rule today (now (v .entry)) ⌝ }
 {
@@ -66,5 +66,10 @@ pub fn judge(rule: ValueRule, today: u64, v: &[u8]) -> Ruling
             let answer = cbeff::judge(face(), &v[0..]);
             answer
         }
+        ValueRule::Certificate => {
+            let answer = der::judge(&v[0..], 8);
+            answer
+        }
+        ValueRule::CertInfo => unless(Fault::BadFixed, plain::same(v, b"\x00")),
     }
 }

@@ -52,7 +52,7 @@ unfolding writeOutput isDate exists daysIn
 cut-short = refl
 
 -- 1, 2
-pub no-kind : writeOutput 8 20260301 sheet 20 ≡ refusal (found UnknownKind 0)
+pub no-kind : writeOutput 12 20260301 sheet 20 ≡ refusal (found UnknownKind 0)
 unfolding writeOutput
 no-kind = refl
 

@@ -28,12 +28,32 @@ returns-7 : tie.Need-returns-7
 returns-7 c = let p = c .before .before in rw (p .before .before .before .match .keys7) (p .put-all7 .ensures)
 
 returns-8 : tie.Need-returns-8
-returns-8 c = let p = c .before .before in rw (← none-listed names [] _ (p .before .before .before .match .rest)) (p .put-all8 .ensures)
+returns-8 c = let p = c .before .before in rw (p .before .before .before .match .keys8) (p .put-all8 .ensures)
+
+returns-9 : tie.Need-returns-9
+returns-9 c = let p = c .before .before in rw (p .before .before .before .match .keys9) (p .put-all9 .ensures)
+
+returns-10 : tie.Need-returns-10
+returns-10 c = let p = c .before .before in rw (p .before .before .before .match .keys10) (p .put-all10 .ensures)
+
+returns-11 : tie.Need-returns-11
+returns-11 c = let p = c .before .before in rw (p .before .before .before .match .keys11) (p .put-all11 .ensures)
+
+returns-12 : tie.Need-returns-12
+returns-12 c = let p = c .before .before in rw (← none-listed names [] _ (p .before .before .before .match .rest)) (p .put-all12 .ensures)
 
 pub put-kind-spec : {M : Type 1} → statement M
 put-kind-spec =
     tie.close
     (tie.spec
+    (λ c. search needs)
+    (λ c κs. search needs)
+    (λ c. search needs)
+    (λ c κs. search needs)
+    (λ c. search needs)
+    (λ c κs. search needs)
+    (λ c. search needs)
+    (λ c κs. search needs)
     (λ c. search needs)
     (λ c κs. search needs)
     (λ c. search needs)
@@ -65,4 +85,12 @@ put-kind-spec =
     (λ c. search needs)
     returns-7
     (λ c. search needs)
-    returns-8)
+    returns-8
+    (λ c. search needs)
+    returns-9
+    (λ c. search needs)
+    returns-10
+    (λ c. search needs)
+    returns-11
+    (λ c. search needs)
+    returns-12)

@@ -13,7 +13,7 @@ use Rattle.container.proofs.Ways.{bad-kind, bad-date, too-large, goes-i
 use Rattle.container.proofs.judge.Statement.{statement}
 use Rattle.container.proofs.judge.Tie as tie
 
--- the kind is one of the seven
+-- the kind is one that there is
 a-kind : (e : tie.Else1) → isKind (e .before .before .before .args .kind) ≡ true
 a-kind e = sym (e .before .is-kind .ensures) ∙ not-false _ (e .if1 .left)
 

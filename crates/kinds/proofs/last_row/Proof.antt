@@ -1,7 +1,7 @@
 -- `kinds::last_row` meets its contract. Assumes nothing.
-use mathlib.Core.Path.{sym, ap}
-use Rattle.kinds.specs.Tables.{lastRow}
-use Rattle.kinds.proofs.Arms.{no-last}
+use mathlib.Core.Path.{ap}
+use Rattle.kinds.specs.Tables.{lastOf}
+use Rattle.kinds.proofs.Arms.{of-kind, certificates, none-below, none-above}
 use Rattle.kinds.proofs.last_row.Statement.{statement}
 use Rattle.kinds.proofs.last_row.Tie as tie
 
@@ -9,11 +9,13 @@ pub last-row-spec : {M : Type 1} → statement M
 last-row-spec =
     tie.close
     (tie.spec
-    (λ c. ap lastRow (sym (c .match .keys1)))
-    (λ c. ap lastRow (sym (c .match .keys2)))
-    (λ c. ap lastRow (sym (c .match .keys3)))
-    (λ c. ap lastRow (sym (c .match .keys4)))
-    (λ c. ap lastRow (sym (c .match .keys5)))
-    (λ c. ap lastRow (sym (c .match .keys6)))
-    (λ c. ap lastRow (sym (c .match .keys7)))
-    (λ c. no-last _ (c .match .rest)))
+    (λ c. ap (lastOf 0 0) (of-kind (c .match .keys1)))
+    (λ c. ap (lastOf 0 0) (of-kind (c .match .keys2)))
+    (λ c. ap (lastOf 0 0) (of-kind (c .match .keys3)))
+    (λ c. ap (lastOf 0 0) (of-kind (c .match .keys4)))
+    (λ c. ap (lastOf 0 0) (of-kind (c .match .keys5)))
+    (λ c. ap (lastOf 0 0) (of-kind (c .match .keys6)))
+    (λ c. ap (lastOf 0 0) (of-kind (c .match .keys7)))
+    (λ c. ap (lastOf 0 0) (certificates _ (c .before .before .match .rest) (c .before .if1 .left) (c .if2 .taken)))
+    (λ c. ap (lastOf 0 0) (none-below _ (c .if1 .taken)))
+    (λ c. ap (lastOf 0 0) (none-above _ (c .if2 .left))))

@@ -2,8 +2,8 @@
 use mathlib.Core.Path.{ap}
 use borrow.Author.Needs.{needs}
 use Rattle.laws.proofs.Rooms.{same-text}
-use Rattle.kinds.proofs.Arms.{none-listed}
-use Rattle.opens.specs.Open.{opensNone, openings, openPart}
+use Rattle.opens.specs.Open.{openPart}
+use Rattle.opens.proofs.Openings.{nothing-open}
 use Rattle.opens.proofs.Opens.{card-open, policy-open, issuer-open, fingers-open, face-open}
 use Rattle.opens.proofs.put_open.Statement.{statement}
 use Rattle.opens.proofs.put_open.Tie as tie
@@ -40,8 +40,12 @@ returns-4 c =
     rw (v .before .match .keys4) (same-text (ap openPart (issuer-open (m .from) (m .to) (s .args .c .now))) (rw (v .part4 .ensures .0) at (p .put-issuer .ensures)))
 
 returns-5 : tie.Need-returns-5
-unfolding openPart
-returns-5 c = let p = c .before .before in rw (p .before .before .before .match .keys5) (p .put-all2 .ensures)
+returns-5 c =
+    let p = c .before .before in
+    let v = p .before .before in
+    let s = v .before .before .before .before in
+    let m = s .args .map in
+    rw (v .before .match .keys5) (same-text (ap openPart (fingers-open (m .from) (m .to) (s .args .c .now))) (rw (v .part5 .ensures .0) at (p .put-biometric .ensures)))
 
 returns-6 : tie.Need-returns-6
 returns-6 c =
@@ -49,19 +53,11 @@ returns-6 c =
     let v = p .before .before in
     let s = v .before .before .before .before in
     let m = s .args .map in
-    rw (v .before .match .keys6) (same-text (ap openPart (fingers-open (m .from) (m .to) (s .args .c .now))) (rw (v .part5 .ensures .0) at (p .put-biometric .ensures)))
+    rw (v .before .match .keys6) (same-text (ap openPart (face-open (m .from) (m .to) (s .args .c .now))) (rw (v .part6 .ensures .0) at (p .put-biometric2 .ensures)))
 
 returns-7 : tie.Need-returns-7
-returns-7 c =
-    let p = c .before .before in
-    let v = p .before .before in
-    let s = v .before .before .before .before in
-    let m = s .args .map in
-    rw (v .before .match .keys7) (same-text (ap openPart (face-open (m .from) (m .to) (s .args .c .now))) (rw (v .part6 .ensures .0) at (p .put-biometric2 .ensures)))
-
-returns-8 : tie.Need-returns-8
 unfolding openPart
-returns-8 c = let p = c .before .before in rw (← none-listed openings opensNone _ (p .before .before .before .match .rest)) (p .put-all3 .ensures)
+returns-7 c = let p = c .before .before in rw (← nothing-open _ (p .before .before .before .match .rest)) (p .put-all2 .ensures)
 
 pub put-open-spec : {M : Type 1} → statement M
 put-open-spec =
@@ -75,8 +71,6 @@ put-open-spec =
     (λ c κs. search needs)
     (λ c κs. search needs)
     (λ c κs. search needs)
-    (λ c κs. search needs)
-    (λ c. search needs)
     (λ c κs. search needs)
     (λ c κs. search needs)
     (λ c κs. search needs)
@@ -97,6 +91,4 @@ put-open-spec =
     (λ c. search needs)
     returns-6
     (λ c. search needs)
-    returns-7
-    (λ c. search needs)
-    returns-8)
+    returns-7)

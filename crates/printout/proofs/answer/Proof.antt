@@ -10,18 +10,18 @@ use Rattle.laws.proofs.Rooms.{same-text}
 use Rattle.kinds.specs.Tables.{isKind}
 use Rattle.dates.specs.Date.{dateOf}
 use Rattle.dates.specs.declared.Date.the-variants.{Is}
-use Rattle.printout.specs.Printout.{kindDigit}
+use Rattle.printout.specs.Printout.{kindOf}
 use Rattle.printout.proofs.Ways.{bad-kind, no-date, cut-date, reported-refused, reported-shown}
 use Rattle.printout.proofs.answer.Statement.{statement}
 use Rattle.printout.proofs.answer.Tie as tie
 
--- the kind is one of the seven
-kind-is : (e : tie.Else1) → isKind (kindDigit (now (e .before .before .before .before .before .args .input))) ≡ true
-kind-is e = ap isKind (sym (e .before .before .kind-digit .ensures)) ∙ sym (e .before .is-kind .ensures) ∙ not-false _ (e .if1 .left)
+-- the kind is one
+kind-is : (e : tie.Else1) → isKind (kindOf (now (e .before .before .before .before .before .args .input))) ≡ true
+kind-is e = ap isKind (sym (e .before .before .kind-of .ensures)) ∙ sym (e .before .is-kind .ensures) ∙ not-false _ (e .if1 .left)
 
 -- the date that was read
 date-is : (k : tie.After-known-told) → let s = now (k .before .before .before .before .before .before .before .before .before .before .before .args .input) in
-    dateOf (take 8 (drop 1 s)) ≡ Is (k .before .today .given .0 .0)
+    dateOf (take 8 (drop 2 s)) ≡ Is (k .before .today .given .0 .0)
 date-is k = sym (k .before .before .before .date-of .ensures) ∙ k .before .today .given .1
 
 returns : tie.Need-returns
@@ -30,7 +30,7 @@ returns c =
     let i = p .before .before .before in
     let k = i .before in
     let a = k .before .before .before .args in
-    same-text (bad-kind (now (a .input)) (length (now (a .room))) (ap isKind (sym (k .kind-digit .ensures)) ∙ sym (i .is-kind .ensures) ∙ not-true _ (p .before .before .if1 .taken)))
+    same-text (bad-kind (now (a .input)) (length (now (a .room))) (ap isKind (sym (k .kind-of .ensures)) ∙ sym (i .is-kind .ensures) ∙ not-true _ (p .before .before .if1 .taken)))
     (p .refuse .ensures)
 
 returns-2 : tie.Need-returns-2
@@ -57,7 +57,7 @@ returns-4 c =
     let k = r .before .before .before in
     let e = k .before .before .before .before .before .before in
     let a = e .before .before .before .before .before .args in
-    reported-refused (now (a .input)) (now (a .room)) (kind-is e) (date-is k) (e .before .before .kind-digit .ensures) (rw rest at (r .report .ensures .leaves)) (f .if3 .taken)
+    reported-refused (now (a .input)) (now (a .room)) (kind-is e) (date-is k) (e .before .before .kind-of .ensures) (rw rest at (r .report .ensures .leaves)) (f .if3 .taken)
     (p .put-refused .ensures)
 
 returns-5 : tie.Need-returns-5
@@ -66,7 +66,7 @@ returns-5 c =
     let k = r .before .before .before in
     let e = k .before .before .before .before .before .before in
     let a = e .before .before .before .before .before .args in
-    reported-shown (now (a .input)) (now (a .room)) (kind-is e) (date-is k) (e .before .before .kind-digit .ensures) (rw rest at (r .report .ensures .leaves)) (c .if3 .left)
+    reported-shown (now (a .input)) (now (a .room)) (kind-is e) (date-is k) (e .before .before .kind-of .ensures) (rw rest at (r .report .ensures .leaves)) (c .if3 .left)
 
 pub answer-spec : {M : Type 1} → statement M
 answer-spec =

@@ -53,6 +53,16 @@ returns-11 c =
     let t = c .before .before .before in
     rw (c .judge2 .ensures, rest (t .before .before .before .args .v .now) 0, c .before .before .face .ensures, t .enum-told11 .given .1)
 
+returns-12 : tie.Need-returns-12
+unfolding ruleOf
+returns-12 c =
+    let t = c .before .before in
+    rw (c .judge3 .ensures, rest (t .before .before .before .args .v .now) 0, t .enum-told12 .given .1)
+
+returns-13 : tie.Need-returns-13
+unfolding ruleOf
+returns-13 c = rw (c .unless7 .ensures, c .before .same3 .ensures, c .before .before .before .enum-told13 .given .1)
+
 pub judge-spec : {M : Type 1} → statement M
 judge-spec =
     tie.close
@@ -96,6 +106,15 @@ judge-spec =
     (λ c. search needs)
     (λ c. search needs)
     (λ c κs. search needs)
+    (λ c. search needs)
+    (λ c. search needs)
+    (λ c. search needs)
+    (λ c. search needs)
+    (λ c κs. search needs)
+    (λ c. search needs)
+    (λ c. search needs)
+    (λ c κs. search needs)
+    (λ c κs. search needs)
     returns
     returns-2
     returns-3
@@ -106,4 +125,6 @@ judge-spec =
     returns-8
     returns-9
     returns-10
-    returns-11)
+    returns-11
+    returns-12
+    returns-13)

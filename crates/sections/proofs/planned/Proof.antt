@@ -9,7 +9,7 @@ use Rattle.sections.proofs.Ways.{bad-kind, bad-date, torn-sheet, whole-
 use Rattle.sections.proofs.planned.Statement.{statement}
 use Rattle.sections.proofs.planned.Tie as tie
 
--- the kind is one of the seven, and the date is one
+-- the kind is one that there is, and the date is one
 a-kind : (e : tie.Else1) → isKind (e .before .before .before .args .kind) ≡ true
 a-kind e = sym (e .before .is-kind .ensures) ∙ not-false _ (e .if1 .left)
 
