@@ -8,7 +8,7 @@
 //! All go over the same cases in the same order, for each first Prosianek, then Rust.
 
 use second::card::{all_kinds, kind_of, Rule};
-use second::generate::endless_row;
+use second::generate::{certificate_kinds, endless_row};
 use second::trees::{certificate_of_pairs, Tree};
 use std::arch::asm;
 use std::ops::{Deref, DerefMut};
@@ -354,10 +354,10 @@ fn fascn_cases() -> Vec<Case> {
     vec![case("decode", Call::Decode, 0), case("encode", Call::Encode, fascn.len())]
 }
 
-/// The kinds that are measured. The four with a certificate have one table, and the first stands for them.
+/// The kinds that are measured. Those with a certificate have one table, and the first stands for them.
 fn measured_kinds() -> impl Iterator<Item = u64> {
-    let certificate = |kind| kind_of(kind).unwrap().rows[0].rule == Rule::Certificate;
-    all_kinds().filter(move |&kind| kind == PIVAUTH || !certificate(kind))
+    let certificates = certificate_kinds();
+    all_kinds().filter(move |kind| *kind == PIVAUTH || !certificates.contains(kind))
 }
 
 /// The tables, each with a title.

@@ -3,8 +3,7 @@
 
 use crate::trial::{Fault, Trial};
 use second::batch::{Answer, Call, Record};
-use second::card::{all_kinds, kind_of, Rule};
-use second::generate::EXAMPLE_DAY;
+use second::generate::{certificate_kinds, EXAMPLE_DAY};
 use second::samples::certificate;
 use second::trees::Tree;
 use second::values::CERTIFICATE_LEVELS;
@@ -107,14 +106,9 @@ fn given(call: Call, kind: u64, bytes: Vec<u8>) -> Record {
     Record { call, kind, today: EXAMPLE_DAY, tag: 0, room: 0, fill: 0xFF, bytes }
 }
 
-fn is_certificate(kind: &u64) -> bool {
-    kind_of(*kind).map_or(false, |kind| kind.rows[0].rule == Rule::Certificate)
-}
-
 /// Judges the certificate in each file, tells what is wrong, and gives whether nothing is.
 pub fn all_judged(files: &[&str]) -> bool {
-    let kinds: Vec<u64> = all_kinds().filter(is_certificate).collect();
-    let mut judging = Judging { trial: Trial::new(70), kinds, calls: 0, wrong: 0 };
+    let mut judging = Judging { trial: Trial::new(70), kinds: certificate_kinds(), calls: 0, wrong: 0 };
     for file in files {
         let value = std::fs::read(file).unwrap_or_else(|error| panic!("{}: {}", file, error));
         let tree = Tree::of(&value, CERTIFICATE_LEVELS).unwrap_or_else(|| panic!("{} is no DER item", file));

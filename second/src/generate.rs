@@ -375,7 +375,13 @@ pub fn endless_kinds() -> Vec<u64> {
     all_kinds().filter(|&kind| endless_row(kind).is_some()).collect()
 }
 
-/// A card of such a kind whose container has exactly `total` bytes, 4,000 or more.
+/// The kinds that hold a certificate. They have one table.
+pub fn certificate_kinds() -> Vec<u64> {
+    let first_rule = |kind| card::kind_of(kind).map(|kind| kind.rows[0].rule);
+    all_kinds().filter(|&kind| first_rule(kind) == Some(Rule::Certificate)).collect()
+}
+
+/// A card of an endless kind whose container has exactly `total` bytes, 4,000 or more.
 pub fn conforming_of_size(rng: &mut Rng, kind: u64, total: usize) -> Card {
     let mut card = conforming(rng, kind);
     let row = endless_row(kind).expect("a kind with a row that can be long");
@@ -1649,7 +1655,7 @@ fn plain(call: Call, kind: u64, bytes: Vec<u8>) -> Record {
 
 /// Certificates at their edges, each kind in turn: of 70 itself, of the length of 72, and of the whole container.
 fn fixed_certificates() -> Vec<Record> {
-    let kinds: Vec<u64> = all_kinds().filter(|&kind| card::kind_of(kind).map_or(false, has_certificate)).collect();
+    let kinds = certificate_kinds();
     let mut cards: Vec<Card> = Vec::new();
     let mut kind = kinds.iter().copied().cycle();
     let mut add = |certificate, extra| cards.extend(kind.next().map(|kind| certificate_card(kind, certificate, extra)));
@@ -1672,10 +1678,6 @@ fn fixed_certificates() -> Vec<Record> {
         ..plain(Call::Write, card.kind, card.sheet())
     }));
     out
-}
-
-fn has_certificate(kind: &card::Kind) -> bool {
-    kind.rows.iter().any(|row| row.rule == Rule::Certificate)
 }
 
 fn fixed_records() -> Vec<Record> {

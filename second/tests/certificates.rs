@@ -3,7 +3,7 @@
 use second::batch::Call;
 use second::check;
 use second::der::{self, Fault};
-use second::generate::{Inputs, Rng, EXAMPLE_DAY};
+use second::generate::{certificate_kinds, Inputs, Rng, EXAMPLE_DAY};
 use second::samples::{certificate, P256, RSA};
 use second::trees::{self, Tree};
 use second::values::CERTIFICATE_LEVELS;
@@ -142,11 +142,12 @@ fn calls_on_certificates_are_made() {
     let mut seen = BTreeSet::new();
     for _ in 0..60_000 {
         let record = inputs.record();
-        if (8..=11).contains(&record.kind) && !matches!(record.call, Call::FascnDecode | Call::FascnEncode) {
+        if certificate_kinds().contains(&record.kind) && !matches!(record.call, Call::FascnDecode | Call::FascnEncode) {
             seen.insert((record.kind, record.call, record.answer().number));
         }
     }
-    for kind in 8..=11 {
+    assert_eq!(certificate_kinds(), [8, 9, 10, 11]);
+    for kind in certificate_kinds() {
         for call in [Call::Check, Call::Read, Call::Write, Call::View] {
             for number in [0, 15, 16, 20, 24, 25] {
                 assert!(seen.contains(&(kind, call, number)), "{} {:?} {}", kind, call, number);
