@@ -7,7 +7,9 @@
 //!
 //! All go over the same cases in the same order, for each first Prosianek, then Rust.
 
-use second::card::{kind_of, Rule};
+use second::card::{all_kinds, kind_of, Rule};
+use second::generate::{certificate_kinds, endless_row};
+use second::trees::{certificate_of_pairs, Tree};
 use std::arch::asm;
 use std::ops::{Deref, DerefMut};
 use std::time::Instant;
@@ -18,6 +20,8 @@ use prosianek::{prosianek_check, prosianek_fascn_decode, prosianek_fascn_encode,
 
 const TODAY: u64 = 2026_03_01;
 const LARGEST: usize = second::CONTAINER_MAX;
+const CHUID: u64 = 2;
+const PIVAUTH: u64 = 8;
 
 // ---------------------------------------------------------------------------------------------
 // What is done with a call: it is made, counted or timed
@@ -199,8 +203,7 @@ fn agree(case: &Case) {
 type Values = Vec<Option<Vec<u8>>>;
 
 fn sample(kind: u64) -> Vec<u8> {
-    let names = ["ccc", "chuid", "discovery", "printed", "security", "fingers", "face"];
-    let path = format!("samples/{}.bin", names[kind as usize - 1]);
+    let path = format!("samples/{}.bin", kind_of(kind).unwrap().name.to_lowercase());
     std::fs::read(&path).unwrap_or_else(|error| panic!("{}: {}", path, error))
 }
 
@@ -240,30 +243,31 @@ fn filling(length: usize) -> Vec<u8> {
     (b' '..=b'~').cycle().take(length).collect()
 }
 
-/// The kind's row that has no longest value, if there is one: 3E of a CHUID, BC of a biometric record.
-fn endless_row(kind: u64) -> Option<usize> {
-    kind_of(kind).unwrap().rows.iter().position(|row| row.longest > LARGEST)
-}
-
-/// The value of the endless row with so many bytes more: of any kind in 3E, of the signature in BC.
-fn longer(value: &[u8], more: usize) -> Vec<u8> {
-    let mut value = [value, &filling(more)[..]].concat();
-    if value[..2] == [0x03, 0x0D] {
-        let signature = u16::from_be_bytes([value[6], value[7]]) + more as u16;
-        value[6..8].copy_from_slice(&signature.to_be_bytes());
+/// The value of a row that has no longest one with so many bytes more: of any kind in 3E, of the signature in BC. In 70 it is a
+/// certificate of items of two bytes.
+fn longer(rule: Rule, value: &[u8], more: usize) -> Vec<u8> {
+    let mut longer = [value, &filling(more)[..]].concat();
+    match rule {
+        Rule::Certificate => certificate_of_pairs(longer.len()).expect("a certificate of so many bytes"),
+        Rule::Fingers | Rule::Face => {
+            let signature = u16::from_be_bytes([value[6], value[7]]) + more as u16;
+            longer[6..8].copy_from_slice(&signature.to_be_bytes());
+            longer
+        }
+        _ => longer,
     }
-    value
 }
 
 /// The container with these values, its endless row lengthened so that it has `total` bytes.
 fn stretched(kind: u64, values: &Values, total: usize) -> Vec<u8> {
     let row = endless_row(kind).expect("a row that can be long");
+    let rule = kind_of(kind).unwrap().rows[row].rule;
     let mut values = values.clone();
     let value = values[row].take().expect("the row is there");
     // 600 more bytes first: then all lengths are written in three bytes, before and after
-    values[row] = Some(longer(&value, 600));
+    values[row] = Some(longer(rule, &value, 600));
     let spare = total - container_of(kind, &values).len();
-    values[row] = Some(longer(&value, 600 + spare));
+    values[row] = Some(longer(rule, &value, 600 + spare));
     container_of(kind, &values)
 }
 
@@ -323,15 +327,26 @@ fn container_cases(what: &str, kind: u64, container: &[u8]) -> Vec<Case> {
         .collect()
 }
 
+/// The check of a certificate of so many items, all but two of them of two bytes.
+fn item_cases(items: usize) -> Vec<Case> {
+    let pairs = Tree::sequence(vec![Tree::empty(); items - 4]);
+    let certificate = Tree::sequence(vec![Tree::empty(), Tree::empty(), pairs]);
+    assert!(certificate.count() == items);
+    let container = container_of(PIVAUTH, &vec![Some(certificate.bytes()), Some(vec![0]), None, Some(vec![])]);
+    let mut cases = container_cases(&format!(" of {} items", commas(items as u64)), PIVAUTH, &container);
+    cases.retain(|case| case.name == "check");
+    cases
+}
+
 fn fascn_cases() -> Vec<Case> {
-    let chuid = sample(2);
-    let (_, _, fascn) = second::view(2, TODAY, &chuid, 0x30);
+    let chuid = sample(CHUID);
+    let (_, _, fascn) = second::view(CHUID, TODAY, &chuid, 0x30);
     let (_, numbers) = second::fascn_decode(fascn);
     let case = |name, call, room| Case {
         what: "FASC-N, 25 bytes".to_string(),
         name,
         call,
-        kind: 2,
+        kind: CHUID,
         input: Bytes::of(fascn),
         numbers,
         room,
@@ -339,10 +354,16 @@ fn fascn_cases() -> Vec<Case> {
     vec![case("decode", Call::Decode, 0), case("encode", Call::Encode, fascn.len())]
 }
 
+/// The kinds that are measured. Those with a certificate have one table, and the first stands for them.
+fn measured_kinds() -> impl Iterator<Item = u64> {
+    let certificates = certificate_kinds();
+    all_kinds().filter(move |kind| *kind == PIVAUTH || !certificates.contains(kind))
+}
+
 /// The tables, each with a title.
 fn tables() -> Vec<(&'static str, Vec<Case>)> {
     let mut kinds = Vec::new();
-    for kind in 1..=7 {
+    for kind in measured_kinds() {
         let (typical, largest) = (sample(kind), largest(kind));
         kinds.extend(container_cases(" typical", kind, &typical));
         if largest.len() > typical.len() {
@@ -351,10 +372,15 @@ fn tables() -> Vec<(&'static str, Vec<Case>)> {
     }
     kinds.extend(fascn_cases());
 
-    let chuid = values_of(2, &sample(2));
+    let chuid = values_of(CHUID, &sample(CHUID));
     let sizes = [1, 2, 4, 8, 16, 32].iter().map(|kib| kib * 1024);
-    let growth = sizes.flat_map(|size| container_cases("", 2, &stretched(2, &chuid, size))).collect();
-    vec![("Each kind, typical and largest", kinds), ("From 1 KiB to 32 KiB", growth)]
+    let growth = sizes.flat_map(|size| container_cases("", CHUID, &stretched(CHUID, &chuid, size))).collect();
+    let items = [500, 1_000, 2_000, 4_000, 8_000, 16_000].iter().flat_map(|&items| item_cases(items)).collect();
+    vec![
+        ("Each kind, typical and largest", kinds),
+        ("From 1 KiB to 32 KiB", growth),
+        ("From 500 to 16,000 items of a certificate", items),
+    ]
 }
 
 // ---------------------------------------------------------------------------------------------

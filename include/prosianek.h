@@ -48,13 +48,17 @@ enum prosianek_kind {
     PROSIANEK_PRINTED = 4,
     PROSIANEK_SECURITY = 5,
     PROSIANEK_FINGERS = 6,
-    PROSIANEK_FACE = 7
+    PROSIANEK_FACE = 7,
+    PROSIANEK_PIVAUTH = 8,
+    PROSIANEK_DIGSIG = 9,
+    PROSIANEK_KEYMGMT = 10,
+    PROSIANEK_CARDAUTH = 11
 };
 
 // What a call answers.
 enum prosianek_number {
     PROSIANEK_DONE = 0,             // conforms, or done
-    PROSIANEK_UNKNOWN_KIND = 1,     // the kind is not 1 to 7
+    PROSIANEK_UNKNOWN_KIND = 1,     // the kind is not 1 to 11
     PROSIANEK_NO_DATE = 2,          // today is no date
     PROSIANEK_SMALL_ROOM = 3,       // the room is too small
     PROSIANEK_LARGE_CONTAINER = 4,  // the container has over 32,768 bytes, given or to be written
@@ -75,7 +79,9 @@ enum prosianek_number {
     PROSIANEK_BAD_FIXED = 20,       // another fixed value, or the policy
     PROSIANEK_BAD_HEADER = 21,      // CBEFF header
     PROSIANEK_BAD_MINUTIAE = 22,    // minutiae
-    PROSIANEK_BAD_TEXT = 23         // a byte that is no text
+    PROSIANEK_BAD_TEXT = 23,        // a byte that is no text
+    PROSIANEK_BAD_DER = 24,         // DER item: the certificate is none, or no SEQUENCE of three parts
+    PROSIANEK_TOO_DEEP = 25         // an item of the certificate is too deep, below level 8
 };
 
 // In all calls: kind is one of enum prosianek_kind; today is a date as an eight-digit number, such as 20260301; container
@@ -84,7 +90,7 @@ enum prosianek_number {
 // Whether a container conforms under the date.
 //   place    where the first broken rule is: the offset of the element's tag in the container; for 15 of the tag found
 //            instead, or the container's end; 0 for 1, 2, 4, for a broken outer tag or length, and when it conforms.
-// Answers 0 if it conforms; else 1, 2, 4, or the first broken rule, 10 to 23.
+// Answers 0 if it conforms; else 1, 2, 4, or the first broken rule, 10 to 25.
 uint64_t prosianek_check(uint64_t kind, uint64_t today, const uint8_t *container, size_t size, uint64_t *place);
 
 // The value sheet of a container: for each row of the kind's table, in order, a two-byte count, high byte first, which is 0
@@ -102,7 +108,7 @@ uint64_t prosianek_read(uint64_t kind, uint64_t today, const uint8_t *container,
 //   container  the lent room, room its size.
 //   place    where the first broken rule is: the offset in the sheet of the row's count; 0 for 1 to 5 and on a success.
 //   length   the container's length; 0 on a refusal.
-// Answers 0 if the container is written; else 1, 2, 5, then row by row 15, 16 or the value's rule, 17 to 23, then 4, then 3
+// Answers 0 if the container is written; else 1, 2, 5, then row by row 15, 16 or the value's rule, 17 to 25, then 4, then 3
 // if the room is under the container's length. The room then holds the container and zeros; on a refusal all zeros.
 uint64_t prosianek_write(uint64_t kind, uint64_t today, const uint8_t *sheet, size_t size, uint8_t *container, size_t room,
                          uint64_t *place, uint64_t *length);

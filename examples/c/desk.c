@@ -16,7 +16,8 @@
 // The element of each kind that is viewed.
 static const uint64_t tags[] = {
     [PROSIANEK_CCC] = 0xF5,      [PROSIANEK_CHUID] = 0x30,    [PROSIANEK_DISCOVERY] = 0x5F2F, [PROSIANEK_PRINTED] = 0x06,
-    [PROSIANEK_SECURITY] = 0xBA, [PROSIANEK_FINGERS] = 0xBC, [PROSIANEK_FACE] = 0xBC,
+    [PROSIANEK_SECURITY] = 0xBA, [PROSIANEK_FINGERS] = 0xBC,  [PROSIANEK_FACE] = 0xBC,        [PROSIANEK_PIVAUTH] = 0x70,
+    [PROSIANEK_DIGSIG] = 0x70,   [PROSIANEK_KEYMGMT] = 0x70,  [PROSIANEK_CARDAUTH] = 0x70,
 };
 
 // The rooms are as large as any answer, so that no call here is refused for its room. The container's has one byte more: a
@@ -110,7 +111,7 @@ static int tell(uint64_t kind, uint64_t today, size_t size) {
         }
     }
 
-    // The kind is one of the seven here, or the report would have been refused.
+    // The kind is one of the eleven here, or the report would have been refused.
     uint64_t offset;
     number = prosianek_view(kind, today, container, size, tags[kind], &place, &offset, &length);
     if (number != verdict || place != where) off = 1;

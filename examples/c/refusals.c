@@ -18,6 +18,16 @@ static const uint8_t chuid[61] = {
 };
 enum { FASCN_AT = 4, SHEET_BYTES = 67 };
 
+// The least certificate as the containers of kinds 8 to 11 hold it: a SEQUENCE of three empty items. The same with an item at
+// level 9.
+static const uint8_t certificate[17] = {
+    0x53, 0x0F, 0x70, 0x08, 0x30, 0x06, 0x05, 0x00, 0x05, 0x00, 0x05, 0x00, 0x71, 0x01, 0x00, 0xFE, 0x00,
+};
+static const uint8_t too_deep[31] = {
+    0x53, 0x1D, 0x70, 0x16, 0x30, 0x14, 0x30, 0x0E, 0x30, 0x0C, 0x30, 0x0A, 0x30, 0x08, 0x30, 0x06,
+    0x30, 0x04, 0x30, 0x02, 0x05, 0x00, 0x05, 0x00, 0x05, 0x00, 0x71, 0x01, 0x00, 0xFE, 0x00,
+};
+
 static const uint8_t too_large[PROSIANEK_LARGEST_CONTAINER + 1];
 
 // What the calls are lent. The room is longer than any size that is lent of it, so that a byte written behind it shows.
@@ -96,6 +106,37 @@ static void report(const char *what, uint64_t kind, uint64_t today, const uint8_
     leaves(what, 0, lent);
 }
 
+// A container that breaks a rule of a value: check, read and view all answer its number and its place.
+static void breaks(const char *what, uint64_t kind, const uint8_t *c, size_t size, uint64_t expected, uint64_t where) {
+    stale();
+    answers(what, prosianek_check(kind, TODAY, c, size, &place), expected);
+    if (place != where) wrong(what, "another place of check");
+    stale();
+    answers(what, prosianek_read(kind, TODAY, c, size, room, 100, &place, &length), expected);
+    if (place != where || length != 0) wrong(what, "another place of read, or a length");
+    leaves(what, 0, 100);
+    stale();
+    answers(what, prosianek_view(kind, TODAY, c, size, 0x70, &place, &offset, &length), expected);
+    if (place != where || offset != 0 || length != 0) wrong(what, "another place of view, an offset or a length");
+}
+
+// A certificate that conforms, and the same with a byte changed.
+static void certificates(uint64_t kind) {
+    uint8_t changed[sizeof certificate];
+    check("check, a certificate", kind, TODAY, certificate, sizeof certificate, PROSIANEK_DONE);
+    breaks("an item at level 9", kind, too_deep, sizeof too_deep, PROSIANEK_TOO_DEEP, 2);
+    memcpy(changed, certificate, sizeof changed);
+    changed[4] = 0x31;
+    breaks("a SET for a certificate", kind, changed, sizeof changed, PROSIANEK_BAD_DER, 2);
+    memcpy(changed, certificate, sizeof changed);
+    changed[6] = 0x1F;
+    breaks("a tag of number 31", kind, changed, sizeof changed, PROSIANEK_BAD_DER, 2);
+    memcpy(changed, certificate, sizeof changed);
+    changed[14] = 0x01;
+    breaks("71 of 01", kind, changed, sizeof changed, PROSIANEK_BAD_FIXED, 12);
+    view("view, no 72", kind, TODAY, certificate, sizeof certificate, 0x72, PROSIANEK_NO_ELEMENT);
+}
+
 static void decode(const char *what, const uint8_t *bytes, size_t size) {
     stale();
     answers(what, prosianek_fascn_decode(bytes, size, numbers), PROSIANEK_BAD_FASCN);
@@ -118,7 +159,7 @@ int main(void) {
     leaves("read", SHEET_BYTES, 100);
     memcpy(sheet, room, SHEET_BYTES);
 
-    static const uint64_t kinds[] = {0, 8, UINT64_MAX};
+    static const uint64_t kinds[] = {0, 12, UINT64_MAX};
     for (int i = 0; i < 3; i++) {
         check("check, bad kind", kinds[i], TODAY, chuid, sizeof chuid, PROSIANEK_UNKNOWN_KIND);
         read("read, bad kind", kinds[i], TODAY, chuid, sizeof chuid, 100, PROSIANEK_UNKNOWN_KIND);
@@ -159,6 +200,8 @@ int main(void) {
     view("view, absent", PROSIANEK_CHUID, TODAY, chuid, sizeof chuid, 0xEE, PROSIANEK_NO_ELEMENT);
     view("view, of another kind", PROSIANEK_CHUID, TODAY, chuid, sizeof chuid, 0xBC, PROSIANEK_NO_ELEMENT);
     view("view, no tag at all", PROSIANEK_CHUID, TODAY, chuid, sizeof chuid, UINT64_MAX, PROSIANEK_NO_ELEMENT);
+
+    for (uint64_t kind = PROSIANEK_PIVAUTH; kind <= PROSIANEK_CARDAUTH; kind++) certificates(kind);
 
     // Each of the nine numbers with one digit too many; that comes before the room.
     static const uint64_t limits[9] = {10000, 10000, 1000000, 10, 10, 10000000000, 10, 10000, 10};

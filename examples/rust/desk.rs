@@ -16,7 +16,8 @@ fn tag_of(kind: u64) -> u64 {
         prosianek::DISCOVERY => 0x5F2F,
         prosianek::PRINTED => 0x06,
         prosianek::SECURITY => 0xBA,
-        _ => 0xBC,
+        prosianek::FINGERS | prosianek::FACE => 0xBC,
+        _ => 0x70,
     }
 }
 

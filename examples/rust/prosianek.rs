@@ -13,6 +13,10 @@ pub const PRINTED: u64 = 4;
 pub const SECURITY: u64 = 5;
 pub const FINGERS: u64 = 6;
 pub const FACE: u64 = 7;
+pub const PIVAUTH: u64 = 8;
+pub const DIGSIG: u64 = 9;
+pub const KEYMGMT: u64 = 10;
+pub const CARDAUTH: u64 = 11;
 
 /// The smallest room for a report. No report is longer.
 pub const REPORT_ROOM: usize = 512;

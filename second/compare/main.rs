@@ -1,14 +1,19 @@
 //! The proved library and the independent second program in one process: each call is made on both sides, and everything
-//! that can be seen of it afterwards is compared. tests/second-program builds and runs this.
+//! that can be seen of it afterwards is compared. tests/second-program builds and runs this, and so do tests/worked-cases and
+//! tests/certificates.
 //!
-//!     compare calls SEED COUNT    the named calls, COUNT made calls, and the sweep
-//!     compare planted SEED        tries the comparison itself, with planted faults
+//!     compare calls SEED COUNT        the named calls, COUNT made calls, and the sweep
+//!     compare planted SEED            tries the comparison itself, with planted faults
+//!     compare cases FOLDER FILE..     worked cases; the inputs of the desk program are put into the folder
+//!     compare certificates FILE..     certificates in DER, as they are and damaged
 
 use second::batch::{Answer, Record, Tally};
 use second::generate::{sweep, Inputs};
 use second::named;
 use std::process::exit;
 
+mod cases;
+mod certificates;
 mod planted;
 #[path = "../../examples/rust/prosianek.rs"]
 mod prosianek;
@@ -99,8 +104,10 @@ fn main() {
     let good = match arguments[..] {
         ["calls", seed, count] => all_same(number(seed), number(count)),
         ["planted", seed] => planted::all_seen(number(seed)),
+        ["cases", folder, ref files @ ..] => cases::all_hold(folder, files),
+        ["certificates", ref files @ ..] => certificates::all_judged(files),
         _ => {
-            eprintln!("usage: compare calls SEED COUNT | planted SEED");
+            eprintln!("usage: compare calls SEED COUNT | planted SEED | cases FOLDER FILE.. | certificates FILE..");
             exit(2)
         }
     };

@@ -73,7 +73,7 @@ fn guarded(stretches: &[Stretch]) -> bool {
 
 /// Made calls, so many of each sort.
 fn calls(seed: u64) -> Vec<Record> {
-    let mut inputs = Inputs::new(seed);
+    let mut inputs = Inputs::made(seed);
     let mut counts: BTreeMap<Call, usize> = BTreeMap::new();
     let mut out = Vec::new();
     while out.len() < CALLS * Call::ALL.len() {

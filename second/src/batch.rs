@@ -1,6 +1,6 @@
 //! The calls of a batch, what is answered to them, and how often each number is.
 
-use crate::{card, report, values};
+use crate::{card, number, report, values};
 use std::collections::BTreeMap;
 use std::fmt;
 
@@ -124,10 +124,10 @@ impl Tally {
         *self.0.entry(call).or_default().entry(number).or_default() += 1;
     }
 
-    /// The numbers of 01's table that were never answered; 8 cannot occur.
+    /// The numbers that were never answered; 8 cannot occur.
     pub fn never(&self) -> Vec<u64> {
         let answered = |number: &u64| self.0.values().any(|numbers| numbers.contains_key(number));
-        (0..=7).chain(10..=23).filter(|number| !answered(number)).collect()
+        (0..=7).chain(10..=number::LAST).filter(|number| !answered(number)).collect()
     }
 }
 

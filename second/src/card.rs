@@ -2,6 +2,7 @@
 
 use crate::values;
 use crate::{number, CONTAINER_MAX};
+use std::ops::RangeInclusive;
 
 /// A verdict's number and place.
 pub type Refusal = (u64, u64);
@@ -19,6 +20,7 @@ pub enum Rule {
     Text,
     Fingers,
     Face,
+    Certificate,
 }
 
 /// A row of a kind's table.
@@ -67,6 +69,7 @@ impl Row {
             Rule::Text => (values::is_text(value), number::TEXT),
             Rule::Fingers => return values::biometric(value, false),
             Rule::Face => return values::biometric(value, true),
+            Rule::Certificate => return values::certificate(value),
         };
         if good {
             number::DONE
@@ -91,7 +94,18 @@ const MANY: usize = usize::MAX;
 const CHECKSUM: Row = fixed(0xFE, 0, Rule::Any);
 const AID: &[u8] = &[0xA0, 0x00, 0x00, 0x03, 0x08, 0x00, 0x00, 0x10, 0x00, 0x01, 0x00];
 
-static KINDS: [Kind; 7] = [
+/// The one table of the certificates.
+const CERTIFICATE: &[Row] = &[
+    row(0x70, 0, MANY, Rule::Certificate),
+    fixed(0x71, 1, Rule::Exactly(&[0x00])),
+    row(0x72, 0, 38, Rule::Any).optional(),
+    CHECKSUM,
+];
+
+/// Kinds are counted from 1 to this one.
+pub const LAST_KIND: u64 = 11;
+
+static KINDS: [Kind; LAST_KIND as usize] = [
     Kind {
         name: "CCC",
         outer: 0x53,
@@ -154,9 +168,18 @@ static KINDS: [Kind; 7] = [
     },
     Kind { name: "FINGERS", outer: 0x53, rows: &[row(0xBC, values::HEADER_BYTES, MANY, Rule::Fingers), CHECKSUM] },
     Kind { name: "FACE", outer: 0x53, rows: &[row(0xBC, values::HEADER_BYTES, MANY, Rule::Face), CHECKSUM] },
+    Kind { name: "PIVAUTH", outer: 0x53, rows: CERTIFICATE },
+    Kind { name: "DIGSIG", outer: 0x53, rows: CERTIFICATE },
+    Kind { name: "KEYMGMT", outer: 0x53, rows: CERTIFICATE },
+    Kind { name: "CARDAUTH", outer: 0x53, rows: CERTIFICATE },
 ];
 
-/// The table of kind 1 to 7.
+/// Every kind, in order.
+pub fn all_kinds() -> RangeInclusive<u64> {
+    1..=LAST_KIND
+}
+
+/// The kind's table; none for a number that is no kind.
 pub fn kind_of(kind: u64) -> Option<&'static Kind> {
     let index = usize::try_from(kind.checked_sub(1)?).ok()?;
     KINDS.get(index)

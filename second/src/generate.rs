@@ -1,7 +1,8 @@
 //! A deterministic generator of conforming and damaged inputs.
 
 use crate::batch::{Call, Record, BYTES_MAX, ROOM_MAX};
-use crate::card::{self, Rule};
+use crate::card::{self, all_kinds, Rule, LAST_KIND};
+use crate::trees;
 use crate::values::{self, fascn_encode, fascn_pack, fascn_values, is_date};
 use crate::{CONTAINER_MAX, REPORT_MAX};
 
@@ -102,15 +103,6 @@ impl Card {
             }
         }
         out
-    }
-
-    fn row_of(&self, tag: u16) -> usize {
-        self.table().iter().position(|row| row.tag == tag).expect("the tag is in the table")
-    }
-
-    fn value(&mut self, tag: u16) -> &mut Vec<u8> {
-        let row = self.row_of(tag);
-        self.rows[row].as_mut().expect("the row is there")
     }
 }
 
@@ -318,7 +310,7 @@ pub fn conforming(rng: &mut Rng, kind: u64) -> Card {
 }
 
 pub fn conforming_on(rng: &mut Rng, kind: u64, today: u64) -> Card {
-    let table = card::kind_of(kind).expect("a kind from 1 to 7").rows;
+    let table = card::kind_of(kind).expect("a kind").rows;
     let mut rows = Vec::new();
     for row in table {
         if row.optional && rng.one_in(2) {
@@ -361,6 +353,7 @@ pub fn conforming_on(rng: &mut Rng, kind: u64, today: u64) -> Card {
                 let signature = any_length(rng, 1, 4_000);
                 biometric(rng, true, &data, signature)
             }
+            Rule::Certificate => trees::certificate(rng),
         }));
     }
     Card { kind, today, rows }
@@ -372,26 +365,44 @@ fn policy(rng: &mut Rng) -> Vec<u8> {
     vec![first, second]
 }
 
-/// A card of kind 2, 6 or 7 whose container has exactly `total` bytes.
+/// The kind's row that has no longest value, if there is one.
+pub fn endless_row(kind: u64) -> Option<usize> {
+    card::kind_of(kind)?.rows.iter().position(|row| row.longest > CONTAINER_MAX)
+}
+
+/// The kinds whose containers can be of any size from some hundred bytes on.
+pub fn endless_kinds() -> Vec<u64> {
+    all_kinds().filter(|&kind| endless_row(kind).is_some()).collect()
+}
+
+/// The kinds that hold a certificate. They have one table.
+pub fn certificate_kinds() -> Vec<u64> {
+    let first_rule = |kind| card::kind_of(kind).map(|kind| kind.rows[0].rule);
+    all_kinds().filter(|&kind| first_rule(kind) == Some(Rule::Certificate)).collect()
+}
+
+/// A card of an endless kind whose container has exactly `total` bytes, 4,000 or more.
 pub fn conforming_of_size(rng: &mut Rng, kind: u64, total: usize) -> Card {
     let mut card = conforming(rng, kind);
-    if kind == 2 {
-        *card.value(0x3E) = vec![0; 1_000];
-        let spare = total - card.container().len();
-        *card.value(0x3E) = rng.bytes(1_000 + spare);
-    } else if kind == 6 {
-        let counts = [minutiae_count(rng), minutiae_count(rng)];
-        let data = minutiae(rng, counts);
-        *card.value(0xBC) = biometric(rng, false, &data, 1_000);
-        let spare = total - card.container().len();
-        *card.value(0xBC) = biometric(rng, false, &data, 1_000 + spare);
-    } else {
-        let signature = rng.size(1, 20_000);
-        *card.value(0xBC) = biometric(rng, true, &[1; 1_000], signature);
-        let spare = total - card.container().len();
-        let data = rng.bytes(1_000 + spare);
-        *card.value(0xBC) = biometric(rng, true, &data, signature);
-    }
+    let row = endless_row(kind).expect("a kind with a row that can be long");
+    // with 2,000 bytes, and later with more, all lengths are written in three bytes
+    card.rows[row] = Some(vec![0; 2_000]);
+    let length = 2_000 + total - card.container().len();
+    card.rows[row] = Some(match card.table()[row].rule {
+        Rule::Fingers => {
+            let counts = [minutiae_count(rng), minutiae_count(rng)];
+            let data = minutiae(rng, counts);
+            biometric(rng, false, &data, length - values::HEADER_BYTES - data.len())
+        }
+        Rule::Face => {
+            let body = length - values::HEADER_BYTES;
+            let signature = rng.size(1, body.min(20_000) - 1);
+            let data = rng.bytes(body - signature);
+            biometric(rng, true, &data, signature)
+        }
+        Rule::Certificate => trees::certificate_of(rng, length).expect("a certificate of so many bytes"),
+        _ => rng.bytes(length),
+    });
     card
 }
 
@@ -425,6 +436,7 @@ pub fn personal_twin(rng: &mut Rng, card: &Card) -> Card {
                 *value = biometric(rng, face, &data, signature);
                 value[values::HEADER_FASCN].copy_from_slice(&fascn);
             }
+            Rule::Certificate => *value = trees::twin(rng, value),
             Rule::Exactly(_) | Rule::Expiry | Rule::Policy | Rule::Text => (),
         }
     }
@@ -910,6 +922,7 @@ fn damage_value(rng: &mut Rng, card: &mut Card) {
                 }
             }
             Rule::Face => damage_header(rng, value),
+            Rule::Certificate => trees::damage(rng, value),
         },
     }
 }
@@ -919,7 +932,7 @@ fn damage_value(rng: &mut Rng, card: &mut Card) {
 
 /// How a length is written.
 #[derive(Clone, Copy)]
-enum Form {
+pub enum Form {
     Fewest,
     /// One byte, the length modulo 128.
     Short,
@@ -950,7 +963,7 @@ struct Loose {
     tail: Vec<u8>,
 }
 
-fn put_length(out: &mut Vec<u8>, length: usize, delta: i64, form: Form) {
+pub fn put_length(out: &mut Vec<u8>, length: usize, delta: i64, form: Form) {
     let length = (length as i64 + delta).max(0) as usize;
     let bytes = (length as u64).to_be_bytes();
     let form = match (form, length) {
@@ -997,10 +1010,10 @@ impl Loose {
     }
 }
 
-const TAGS: [u16; 40] = [
+const TAGS: [u16; 43] = [
     0xF0, 0xF1, 0xF2, 0xF3, 0xF4, 0xF5, 0xF6, 0xF7, 0xFA, 0xFB, 0xFC, 0xFD, 0xE3, 0xB4, 0xFE, 0xEE, 0x30, 0x32, 0x33,
     0x34, 0x35, 0x36, 0x3E, 0x4F, 0x5F2F, 0x01, 0x02, 0x04, 0x05, 0x06, 0x07, 0x08, 0xBA, 0xBB, 0xBC, 0x5F, 0x2F, 0x53,
-    0x7E, 0x00,
+    0x7E, 0x00, 0x70, 0x71, 0x72,
 ];
 
 fn any_tag(rng: &mut Rng, kind: u64) -> u16 {
@@ -1014,7 +1027,7 @@ fn any_tag(rng: &mut Rng, kind: u64) -> u16 {
     }
 }
 
-fn any_form(rng: &mut Rng) -> Form {
+pub fn any_form(rng: &mut Rng) -> Form {
     match rng.below(12) {
         0..=2 => Form::Long(1),
         3..=5 => Form::Long(2),
@@ -1027,7 +1040,7 @@ fn any_form(rng: &mut Rng) -> Form {
     }
 }
 
-fn any_delta(rng: &mut Rng) -> i64 {
+pub fn any_delta(rng: &mut Rng) -> i64 {
     match rng.below(6) {
         0 | 1 => 1,
         2 | 3 => -1,
@@ -1117,7 +1130,7 @@ fn damage_form(rng: &mut Rng, loose: &mut Loose, kind: u64) {
     }
 }
 
-fn damage_bytes(rng: &mut Rng, bytes: &mut Vec<u8>) {
+pub fn damage_bytes(rng: &mut Rng, bytes: &mut Vec<u8>) {
     if bytes.is_empty() {
         return;
     }
@@ -1189,9 +1202,9 @@ fn damage_sheet(rng: &mut Rng, sheet: &mut Vec<u8>, card: &Card) {
 fn strange_kind(rng: &mut Rng, kind: u64) -> u64 {
     rng.pick(&[
         0,
-        8,
-        9,
-        10,
+        LAST_KIND + 1,
+        LAST_KIND + 2,
+        2 * LAST_KIND,
         255,
         256 + kind,
         65_536 + kind,
@@ -1315,12 +1328,22 @@ fn view_tag(rng: &mut Rng, kind: u64) -> u64 {
             ])
         }
         17 => rng.below(256),
-        _ => rng.pick(&[0xFE, 0x30, 0xBC, 0x5F2F, 0x06]),
+        _ => rng.pick(&[0xFE, 0x30, 0xBC, 0x5F2F, 0x06, 0x70, 0x72]),
     }
 }
 
+/// How often each kind is made, beside the others. The last four have one table.
+const SHARES: [u64; LAST_KIND as usize] = [2, 3, 2, 2, 1, 4, 2, 2, 1, 1, 1];
+
 fn any_kind(rng: &mut Rng) -> u64 {
-    rng.pick(&[1, 1, 2, 2, 2, 3, 3, 4, 4, 5, 6, 6, 6, 6, 7, 7])
+    let mut left = rng.below(SHARES.iter().sum());
+    for (kind, share) in all_kinds().zip(SHARES) {
+        if left < share {
+            return kind;
+        }
+        left -= share;
+    }
+    LAST_KIND
 }
 
 /// The inputs of a batch, one after the other.
@@ -1330,9 +1353,14 @@ pub struct Inputs {
 }
 
 impl Inputs {
-    /// A batch begins with 01's examples and some edges, whatever the seed.
+    /// A batch begins with examples and edges, whatever the seed.
     pub fn new(seed: u64) -> Inputs {
-        Inputs { rng: Rng::new(seed), fixed: fixed_records().into_iter() }
+        Inputs { fixed: fixed_records().into_iter(), ..Inputs::made(seed) }
+    }
+
+    /// A batch of made inputs alone.
+    pub fn made(seed: u64) -> Inputs {
+        Inputs { rng: Rng::new(seed), fixed: Vec::new().into_iter() }
     }
 
     pub fn record(&mut self) -> Record {
@@ -1442,7 +1470,7 @@ fn write_record(rng: &mut Rng) -> Record {
 
 /// A container or a sheet near the limit of 32,768 bytes.
 fn big_record(rng: &mut Rng) -> Record {
-    let kind = rng.pick(&[2, 6, 7]);
+    let kind = rng.pick(&endless_kinds());
     let total = match rng.below(10) {
         0..=2 => CONTAINER_MAX,
         3..=5 => CONTAINER_MAX + 1,
@@ -1456,8 +1484,11 @@ fn big_record(rng: &mut Rng) -> Record {
         let call = Call::Write;
         if rng.one_in(12) {
             // The longest section that a sheet can hold.
-            let last = card.rows.len() - 2;
-            card.rows[last] = Some(rng.bytes(65_534));
+            let row = endless_row(kind).expect("it has such a row");
+            card.rows[row] = match card.table()[row].rule {
+                Rule::Certificate => trees::certificate_of(rng, 65_534),
+                _ => Some(rng.bytes(65_534)),
+            };
         }
         let room = if total > CONTAINER_MAX {
             rng.pick(&[0, 0, 100, total])
@@ -1601,16 +1632,56 @@ pub fn small(kind: u64) -> Vec<u8> {
             let bc = biometric(&mut rng, false, &data, 1);
             Card { kind, today: EXAMPLE_DAY, rows: vec![Some(bc), Some(Vec::new())] }.container()
         }
-        _ => {
+        7 => {
             let bc = biometric(&mut rng, true, &[1], 1);
             Card { kind, today: EXAMPLE_DAY, rows: vec![Some(bc), Some(Vec::new())] }.container()
         }
+        8 => certificate_card(kind, trees::least().bytes(), None).container(),
+        9 => certificate_card(kind, trees::down_to(8, 5, &[]).bytes(), Some(0)).container(),
+        10 => certificate_card(kind, trees::down_to(4, 4, &[0x30; 128]).bytes(), Some(1)).container(),
+        _ => certificate_card(kind, trees::skeleton().bytes(), None).container(),
     }
+}
+
+/// A card with a certificate, and with so many bytes of 72 if it has any.
+fn certificate_card(kind: u64, certificate: Vec<u8>, extra: Option<usize>) -> Card {
+    let rows = vec![Some(certificate), Some(vec![0]), extra.map(|length| vec![0x41; length]), Some(Vec::new())];
+    Card { kind, today: EXAMPLE_DAY, rows }
+}
+
+fn plain(call: Call, kind: u64, bytes: Vec<u8>) -> Record {
+    Record { call, kind, today: EXAMPLE_DAY, tag: 0, room: 0, fill: 0, bytes }
+}
+
+/// Certificates at their edges, each kind in turn: of 70 itself, of the length of 72, and of the whole container.
+fn fixed_certificates() -> Vec<Record> {
+    let kinds = certificate_kinds();
+    let mut cards: Vec<Card> = Vec::new();
+    let mut kind = kinds.iter().copied().cycle();
+    let mut add = |certificate, extra| cards.extend(kind.next().map(|kind| certificate_card(kind, certificate, extra)));
+    for certificate in trees::edges() {
+        add(certificate, None);
+    }
+    for extra in [0, 1, 37, 38, 39, 40, 127, 128] {
+        add(trees::least().bytes(), Some(extra));
+    }
+    // 13 bytes of the container are not the certificate's
+    for total in [CONTAINER_MAX - 1, CONTAINER_MAX, CONTAINER_MAX + 1] {
+        for _ in &kinds {
+            add(trees::certificate_of_pairs(total - 13).expect("a certificate of so many bytes"), None);
+        }
+    }
+    let mut out: Vec<Record> = cards.iter().map(|card| plain(Call::Check, card.kind, card.container())).collect();
+    out.extend(cards.iter().map(|card| Record {
+        room: 100,
+        fill: 0xA5,
+        ..plain(Call::Write, card.kind, card.sheet())
+    }));
+    out
 }
 
 fn fixed_records() -> Vec<Record> {
     let mut out = Vec::new();
-    let plain = |call, kind, bytes: Vec<u8>| Record { call, kind, today: EXAMPLE_DAY, tag: 0, room: 0, fill: 0, bytes };
     let mut wrong = EXAMPLE_FASCN.to_vec();
     wrong[24] = 0xEA;
     for bytes in [EXAMPLE_FASCN.to_vec(), wrong] {
@@ -1627,7 +1698,7 @@ fn fixed_records() -> Vec<Record> {
     let mut wrong = EXAMPLE_DISCOVERY.to_vec();
     wrong[18] = 0x60;
     out.push(plain(Call::Check, 3, wrong));
-    for kind in 1..=7 {
+    for kind in all_kinds() {
         let container = small(kind);
         for bytes in [
             Vec::new(),
@@ -1650,7 +1721,7 @@ fn fixed_records() -> Vec<Record> {
         for tag in [0x5F, 0x2F, 0x5F2F, 0xFE, 0, u64::MAX] {
             out.push(Record { tag, ..plain(Call::View, kind, container.clone()) });
         }
-        if kind >= 6 {
+        if matches!(kind, 6 | 7) {
             for quality in [0xFD, 0xFE, 0xFF, 0x00, 0x64, 0x65, 0x7F, 0x80] {
                 let mut bytes = container.clone();
                 let header = bytes.iter().position(|&byte| byte == 0xBC).unwrap_or(0) + 3;
@@ -1659,7 +1730,7 @@ fn fixed_records() -> Vec<Record> {
                 out.push(plain(Call::Check, kind, bytes));
             }
         }
-        for strange in [0, 8, u64::MAX] {
+        for strange in [0, LAST_KIND + 1, u64::MAX] {
             for today in [EXAMPLE_DAY, 0] {
                 out.push(Record {
                     kind: strange,
@@ -1673,15 +1744,15 @@ fn fixed_records() -> Vec<Record> {
         out.push(Record { today, ..plain(Call::Check, 3, EXAMPLE_DISCOVERY.to_vec()) });
         out.push(Record { today, room: 512, fill: 0xA5, ..plain(Call::Report, 3, EXAMPLE_DISCOVERY.to_vec()) });
     }
+    out.extend(fixed_certificates());
     out
 }
 
 /// Every container that differs from a small conforming one in one byte, and itself: checks.
 pub fn sweep<F: FnMut(&Record)>(mut take: F) {
-    for kind in 1..=7 {
+    for kind in all_kinds() {
         let container = small(kind);
-        let mut record =
-            Record { call: Call::Check, kind, today: EXAMPLE_DAY, tag: 0, room: 0, fill: 0, bytes: container.clone() };
+        let mut record = plain(Call::Check, kind, container.clone());
         for (at, &original) in container.iter().enumerate() {
             for value in 0..=255 {
                 record.bytes[at] = value;

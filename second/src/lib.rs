@@ -1,14 +1,16 @@
 //! The independent second program: it checks, reads, writes, views and reports PIV data containers.
 //!
-//! It is written from the scope page (01) and its list of decided points alone, and serves as the
-//! partner that the proved program is compared with, and as the speed baseline.
+//! It is written from the scope page (01), the change requests (02) and the list of decided points
+//! alone, and serves as the partner that the proved program is compared with, and as the speed baseline.
 
 pub mod batch;
 pub mod card;
+pub mod der;
 pub mod generate;
 pub mod named;
 pub mod report;
 pub mod samples;
+pub mod trees;
 pub mod values;
 
 pub use card::{check, read, view, write};
@@ -40,6 +42,11 @@ pub mod number {
     pub const HEADER: u64 = 21;
     pub const MINUTIAE: u64 = 22;
     pub const TEXT: u64 = 23;
+    pub const DER: u64 = 24;
+    pub const TOO_DEEP: u64 = 25;
+
+    /// The last of them.
+    pub const LAST: u64 = TOO_DEEP;
 }
 
 /// A container has at most this many bytes.

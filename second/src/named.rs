@@ -1,10 +1,11 @@
-//! Named calls with the answers that 01 gives them, written out: its examples that a program has to run, refusals of every call,
+//! Named calls with the answers that 01 and 02 give them, written out: examples that a program has to run, refusals of every call,
 //! and rooms at their edges. The tests of this program run them, and the comparison runs them through both programs.
 
 use crate::batch::{Answer, Call, Record};
 use crate::card::Refusal;
 use crate::generate::{Card, EXAMPLE_DAY, EXAMPLE_DISCOVERY, EXAMPLE_FASCN};
-use crate::samples::{card, ccc, chuid, discovery, face, fingers, printed, security, wrong_fascn, UUID};
+use crate::samples::{card, ccc, certificate, chuid, discovery, face, fingers, printed, security, wrong_fascn};
+use crate::samples::{COMPRESSED, P256, RSA, UUID};
 use crate::CONTAINER_MAX;
 
 /// A call and its answer.
@@ -14,8 +15,19 @@ pub type Case = (Record, Answer);
 pub type Group = (&'static str, Vec<Case>);
 
 pub fn all() -> Vec<Group> {
-    [fascns(), biometrics(), limits(), conforming(), broken(), there_and_back(), refused_sheets(), views(), reports()]
-        .concat()
+    [
+        fascns(),
+        biometrics(),
+        certificates(),
+        limits(),
+        conforming(),
+        broken(),
+        there_and_back(),
+        refused_sheets(),
+        views(),
+        reports(),
+    ]
+    .concat()
 }
 
 // ---------------------------------------------------------------------------------------------
@@ -162,7 +174,7 @@ fn fascns() -> Vec<Group> {
 }
 
 // ---------------------------------------------------------------------------------------------
-// Checks
+// Biometric records
 
 fn biometrics() -> Vec<Group> {
     let fingers_of = |quality, verdict| check(6, &fingers(quality, b'0', [0, 0]).container(), verdict);
@@ -200,6 +212,249 @@ fn biometrics() -> Vec<Group> {
     ]
 }
 
+// ---------------------------------------------------------------------------------------------
+// Certificates
+
+/// The least certificate.
+const LEAST: [u8; 8] = [0x30, 6, 5, 0, 5, 0, 5, 0];
+
+/// One with an item at level 8, and one with an item at level 9.
+const LEVEL_8: [u8; 20] = [0x30, 18, 0x30, 12, 0x30, 10, 0x30, 8, 0x30, 6, 0x30, 4, 0x30, 2, 5, 0, 5, 0, 5, 0];
+const LEVEL_9: [u8; 22] =
+    [0x30, 20, 0x30, 14, 0x30, 12, 0x30, 10, 0x30, 8, 0x30, 6, 0x30, 4, 0x30, 2, 5, 0, 5, 0, 5, 0];
+
+/// One with a SEQUENCE at level 8 that has one byte inside.
+const HALF_AN_ITEM: [u8; 21] =
+    [0x30, 19, 0x30, 13, 0x30, 11, 0x30, 9, 0x30, 7, 0x30, 5, 0x30, 3, 0x30, 1, 5, 5, 0, 5, 0];
+
+/// A certificate of so many bytes, most of them in items of two bytes.
+fn of_pairs(bytes: usize) -> Vec<u8> {
+    let length = |bytes: usize| (bytes as u16).to_be_bytes();
+    let pairs = bytes - 12;
+    let mut out = vec![0x30, 0x82];
+    out.extend(length(bytes - 4));
+    // the first part has two bytes, or three
+    out.extend_from_slice(if pairs % 2 == 0 { &[5, 0] } else { &[2, 1, 7] });
+    out.extend([5, 0, 0x30, 0x82]);
+    out.extend(length(pairs / 2 * 2));
+    out.extend([5, 0].repeat(pairs / 2));
+    out
+}
+
+/// A certificate of three parts, the second of which is these bytes.
+fn with_part(part: &[u8]) -> Vec<u8> {
+    let length = part.len() + 4;
+    let length = match length {
+        0..=127 => vec![length as u8],
+        128..=255 => vec![0x81, length as u8],
+        _ => vec![0x82, (length >> 8) as u8, length as u8],
+    };
+    [&[0x30], &length[..], &[5, 0], part, &[5, 0]].concat()
+}
+
+/// A check of PIVAUTH with this value of 70, whose tag stands behind an outer length of one, two or three bytes.
+fn check_70(value: &[u8], number: u64) -> Case {
+    let container = certificate(8, value, 0, None).container();
+    let place = match container[1] {
+        _ if number == 0 => 0,
+        0x81 => 3,
+        0x82 => 4,
+        _ => 2,
+    };
+    check(8, &container, (number, place))
+}
+
+fn certificates() -> Vec<Group> {
+    let least = |kind| check(kind, &certificate(kind, &LEAST, 0, None).container(), (0, 0));
+    vec![
+        ("the least certificate as PIVAUTH, DIGSIG, KEYMGMT, CARDAUTH", vec![least(8), least(9), least(10), least(11)]),
+        certificate_levels(),
+        certificate_parts(),
+        torn_certificates(),
+        certificate_tags(),
+        opened_items(),
+        torn_items(),
+        item_lengths(),
+        first_fault(),
+        certificate_information(),
+        certificate_extras(),
+        certificate_rows(),
+        (
+            "certificates of two-byte items in containers of exactly 32,768 bytes and of 32,769",
+            vec![
+                check(9, &certificate(9, &of_pairs(32_755), 0, None).container(), (0, 0)),
+                check(9, &certificate(9, &of_pairs(32_756), 0, None).container(), (4, 0)),
+            ],
+        ),
+    ]
+}
+
+fn certificate_levels() -> Group {
+    let with_9 = |tag: u8, length: u8| [&LEVEL_9[..16], &[tag, length], &LEVEL_9[18..]].concat();
+    (
+        "an item at level 8 and at level 9; there a tag 1F, a length 80 and half an item are not looked at",
+        vec![
+            check_70(&LEVEL_8, 0),
+            check_70(&LEVEL_9, 25),
+            check_70(&with_9(0x1F, 0), 25),
+            check_70(&with_9(5, 0x80), 25),
+            check_70(&HALF_AN_ITEM, 25),
+        ],
+    )
+}
+
+fn certificate_parts() -> Group {
+    let parts = |outer: u8, count: usize| [&[outer, 2 * count as u8], &[5, 0].repeat(count)[..]].concat();
+    (
+        "no, one, two, three, four and five parts; a SET, a primitive 10 and another class outside",
+        vec![
+            check_70(&parts(0x30, 0), 24),
+            check_70(&parts(0x30, 1), 24),
+            check_70(&parts(0x30, 2), 24),
+            check_70(&parts(0x30, 3), 0),
+            check_70(&parts(0x30, 4), 24),
+            check_70(&parts(0x30, 5), 24),
+            check_70(&parts(0x31, 3), 24),
+            check_70(&parts(0x10, 3), 24),
+            check_70(&parts(0x70, 3), 24),
+        ],
+    )
+}
+
+fn torn_certificates() -> Group {
+    (
+        "an empty 70, a tag alone, a byte behind the outermost item and one too few",
+        vec![
+            check_70(&[], 24),
+            check_70(&[0x30], 24),
+            check_70(&[&LEAST[..], &[0]].concat(), 24),
+            check_70(&LEAST[..7], 24),
+        ],
+    )
+}
+
+fn certificate_tags() -> Group {
+    let tag = |tag: u8, number| check_70(&with_part(&[tag, 0]), number);
+    (
+        "tags of number 31 in each class, and of number 30; tag 00",
+        vec![
+            tag(0x1F, 24),
+            tag(0x3F, 24),
+            tag(0x5F, 24),
+            tag(0x9F, 24),
+            tag(0xFF, 24),
+            tag(0x1E, 0),
+            tag(0xBE, 0),
+            tag(0x00, 0),
+        ],
+    )
+}
+
+fn opened_items() -> Group {
+    (
+        "only constructed items are opened: 04 and 24 with the same bytes inside, and 24 with an item inside",
+        vec![
+            check_70(&with_part(&[0x04, 2, 0xFF, 0xFF]), 0),
+            check_70(&with_part(&[0x24, 2, 0xFF, 0xFF]), 24),
+            check_70(&with_part(&[0x24, 2, 5, 0]), 0),
+        ],
+    )
+}
+
+fn torn_items() -> Group {
+    (
+        "a part that runs past its item, one that leaves a byte over, a length that is cut off, 80",
+        vec![
+            check_70(&with_part(&[0x30, 2, 5, 1]), 24),
+            check_70(&with_part(&[0x30, 3, 5, 0, 5]), 24),
+            check_70(&[0x30, 6, 5, 0, 5, 0, 4, 0x81], 24),
+            check_70(&with_part(&[0x30, 0x80, 5, 0, 0, 0]), 24),
+        ],
+    )
+}
+
+fn item_lengths() -> Group {
+    let long = |length: &[u8], bytes: usize, number| {
+        check_70(&with_part(&[&[4], length, &vec![0; bytes][..]].concat()), number)
+    };
+    (
+        "contents of 127, 128, 255 and 256 bytes, and the same lengths in a byte more",
+        vec![
+            long(&[0x7F], 127, 0),
+            long(&[0x81, 0x7F], 127, 24),
+            long(&[0x81, 0x80], 128, 0),
+            long(&[0x82, 0x00, 0x80], 128, 24),
+            long(&[0x81, 0xFF], 255, 0),
+            long(&[0x82, 0x00, 0xFF], 255, 24),
+            long(&[0x82, 0x01, 0x00], 256, 0),
+            long(&[0x83, 0x00, 0x01, 0x00], 256, 24),
+        ],
+    )
+}
+
+fn first_fault() -> Group {
+    let parts = &LEVEL_9[2..];
+    (
+        "the first fault in byte order: 1F before level 9 and behind it; level 9 before four parts, a SET and a byte behind; \
+         an outermost item that is cut off before level 9",
+        vec![
+            check_70(&[&[0x30, 22, 0x1F, 0], parts].concat(), 24),
+            check_70(&[&[0x30, 22], parts, &[0x1F, 0]].concat(), 25),
+            check_70(&[&[0x30, 22, 5, 0], parts].concat(), 25),
+            check_70(&[&[0x31, 20], parts].concat(), 25),
+            check_70(&[&[0x30, 20], parts, &[0]].concat(), 25),
+            check_70(&[&[0x30, 21], parts].concat(), 24),
+        ],
+    )
+}
+
+/// A check of CARDAUTH with these elements.
+fn check_elements(elements: &[&[u8]], verdict: Refusal) -> Case {
+    let content = elements.concat();
+    check(11, &[&[0x53, content.len() as u8], &content[..]].concat(), verdict)
+}
+
+/// The first element with the least certificate, and the second and the last as they should be.
+const ELEMENT_70: [u8; 10] = [0x70, 8, 0x30, 6, 5, 0, 5, 0, 5, 0];
+const ELEMENT_71: [u8; 3] = [0x71, 1, 0];
+const ELEMENT_FE: [u8; 2] = [0xFE, 0];
+
+fn certificate_information() -> Group {
+    (
+        "71 of 01; of 01 with a certificate that is compressed; of no bytes and of two",
+        vec![
+            check(10, &certificate(10, &LEAST, 1, None).container(), (20, 12)),
+            check(10, &certificate(10, COMPRESSED, 1, None).container(), (24, 4)),
+            check_elements(&[&ELEMENT_70, &[0x71, 0], &ELEMENT_FE], (16, 12)),
+            check_elements(&[&ELEMENT_70, &[0x71, 2, 0, 0], &ELEMENT_FE], (16, 12)),
+        ],
+    )
+}
+
+fn certificate_extras() -> Group {
+    let of =
+        |length: usize, verdict| check(10, &certificate(10, &LEAST, 0, Some(&vec![0x41; length])).container(), verdict);
+    ("72 of 0, 38 and 39 bytes", vec![of(0, (0, 0)), of(38, (0, 0)), of(39, (16, 15))])
+}
+
+fn certificate_rows() -> Group {
+    let extra = [0x72, 0];
+    (
+        "70 missing, 71 missing, 72 before 71, 71 twice, FE missing, a tag that is none",
+        vec![
+            check_elements(&[&ELEMENT_71, &ELEMENT_FE], (15, 2)),
+            check_elements(&[&ELEMENT_70, &ELEMENT_FE], (15, 12)),
+            check_elements(&[&ELEMENT_70, &extra, &ELEMENT_71, &ELEMENT_FE], (15, 12)),
+            check_elements(&[&ELEMENT_70, &ELEMENT_71, &ELEMENT_71, &ELEMENT_FE], (14, 15)),
+            check_elements(&[&ELEMENT_70, &ELEMENT_71, &extra], (15, 17)),
+            check_elements(&[&ELEMENT_70, &ELEMENT_71, &[0x73, 0], &ELEMENT_FE], (13, 15)),
+        ],
+    )
+}
+
+// ---------------------------------------------------------------------------------------------
+// Limits, kinds and broken containers
+
 fn limits() -> Vec<Group> {
     let day = |today, number| on(today, check(5, &SMALL, (number, 0)));
     vec![
@@ -212,8 +467,8 @@ fn limits() -> Vec<Group> {
             ],
         ),
         (
-            "kind 0, 8 and the largest number",
-            vec![check(0, &SMALL, (1, 0)), check(8, &SMALL, (1, 0)), check(u64::MAX, &SMALL, (1, 0))],
+            "kind 0, 12 and the largest number",
+            vec![check(0, &SMALL, (1, 0)), check(12, &SMALL, (1, 0)), check(u64::MAX, &SMALL, (1, 0))],
         ),
         (
             "today 0, 20230229, 10101, 99991231, 99999999 and the largest number, SECURITY",
@@ -226,7 +481,7 @@ fn conforming() -> Vec<Group> {
     let conforms = |card: Card| check(card.kind, &card.container(), (0, 0));
     vec![
         (
-            "one of every kind: CCC, CHUID, DISCOVERY, PRINTED, SECURITY, FINGERS, FACE",
+            "one of every kind: CCC, CHUID, DISCOVERY, PRINTED, SECURITY, FINGERS, FACE, and certificates",
             vec![
                 conforms(ccc(0x10)),
                 conforms(case_r()),
@@ -235,6 +490,10 @@ fn conforming() -> Vec<Group> {
                 conforms(security(&[1, 2], &[3; 200])),
                 conforms(fingers(100, b'0', [3, 5])),
                 conforms(face(100, 300, 40)),
+                conforms(certificate(8, RSA, 0, None)),
+                conforms(certificate(9, P256, 0, None)),
+                conforms(certificate(10, P256, 0, Some(&[1]))),
+                conforms(certificate(11, &LEAST, 0, None)),
             ],
         ),
         ("a CHUID with each optional element", vec![conforms(whole_chuid(&[]))]),
@@ -324,7 +583,15 @@ fn there_and_back() -> Vec<Group> {
         group("SECURITY read and written", security(&[1, 2], &[3; 140])),
         group("FINGERS read and written", fingers(100, b'0', [1, 2])),
         group("FACE read and written", face(100, 3, 4)),
+        group("PIVAUTH read and written", certificate(8, RSA, 0, None)),
+        group("DIGSIG read and written", certificate(9, P256, 0, Some(&[]))),
+        group("KEYMGMT read and written", certificate(10, &LEVEL_8, 0, Some(&[0x41; 38]))),
+        group("CARDAUTH read and written", certificate(11, &LEAST, 0, None)),
     ]
+}
+
+fn refuses_certificate(value: &[u8], information: u8, extra: Option<&[u8]>, refusal: Refusal) -> Case {
+    write(8, &certificate(8, value, information, extra).sheet(), 70, Err(refusal))
 }
 
 fn refused_sheets() -> Vec<Group> {
@@ -368,11 +635,22 @@ fn refused_sheets() -> Vec<Group> {
             ],
         ),
         (
-            "a container over 32,768 bytes to be written (4 before 3), kind 8, no date",
+            "a container over 32,768 bytes to be written (4 before 3), kind 12, no date",
             vec![
                 write(2, &chuid(&EXAMPLE_FASCN, EXPIRES, &[7; 33_000]).sheet(), 10, Err((4, 0))),
-                write(8, &sheet, 10, Err((1, 0))),
+                write(12, &sheet, 10, Err((1, 0))),
                 on(20260230, write(2, &sheet, 10, Err((2, 0)))),
+            ],
+        ),
+        (
+            "PIVAUTH sheets: two parts, level 9, 71 of 01, 72 of 39 bytes, no 71, and 70 too large for a container",
+            vec![
+                refuses_certificate(&[0x30, 4, 5, 0, 5, 0], 0, None, (24, 0)),
+                refuses_certificate(&LEVEL_9, 0, None, (25, 0)),
+                refuses_certificate(&LEAST, 1, None, (20, 10)),
+                refuses_certificate(&LEAST, 0, Some(&[0x41; 39]), (16, 13)),
+                write(8, &card(8, &[Some(&LEAST), None, None, Some(&[])]).sheet(), 70, Err((15, 10))),
+                refuses_certificate(&of_pairs(32_756), 0, None, (4, 0)),
             ],
         ),
     ]
@@ -384,6 +662,8 @@ fn refused_sheets() -> Vec<Group> {
 fn views() -> Vec<Group> {
     let chuid_view = |tag, outcome| view(2, &case_r().container(), tag, outcome);
     let discovery_view = |tag, outcome| view(3, &EXAMPLE_DISCOVERY, tag, outcome);
+    let keymgmt = certificate(10, &LEAST, 0, Some(&[1, 2])).container();
+    let keymgmt_view = |tag, outcome| view(10, &keymgmt, tag, outcome);
     vec![
         (
             "views of a CHUID: 30, 36 absent, FE (empty), BA of another kind, 5F2F; of a broken CHUID",
@@ -411,6 +691,18 @@ fn views() -> Vec<Group> {
                 discovery_view(0x5F, Err((6, 0))),
                 discovery_view(0x2F, Err((6, 0))),
                 discovery_view(u64::MAX, Err((6, 0))),
+            ],
+        ),
+        (
+            "views of KEYMGMT: 70, 71, 72, FE, 30 of another kind; 72 absent; of a certificate that is too deep",
+            vec![
+                keymgmt_view(0x70, Ok((4, 8))),
+                keymgmt_view(0x71, Ok((14, 1))),
+                keymgmt_view(0x72, Ok((17, 2))),
+                keymgmt_view(0xFE, Ok((21, 0))),
+                keymgmt_view(0x30, Err((6, 0))),
+                view(10, &certificate(10, &LEAST, 0, None).container(), 0x72, Err((6, 0))),
+                view(10, &certificate(10, &LEVEL_9, 0, None).container(), 0x70, Err((25, 2))),
             ],
         ),
     ]
@@ -492,6 +784,34 @@ fn reports() -> Vec<Group> {
             &format!("ELEMENTS 2\nBC 95\nFE 0\n{}", agency),
             face(0xFF, 300, 40),
             "21 4",
+        ),
+        pair(
+            "PIVAUTH reported, conforming and broken",
+            certificate(8, RSA, 0, None),
+            "ELEMENTS 3\n70 1091\n71 1\nFE 0\nOPEN 0\n",
+            certificate(8, COMPRESSED, 1, None),
+            "24 4",
+        ),
+        pair(
+            "DIGSIG reported, conforming and broken",
+            certificate(9, P256, 0, Some(&[])),
+            "ELEMENTS 4\n70 435\n71 1\n72 0\nFE 0\nOPEN 0\n",
+            certificate(9, &LEVEL_9, 0, None),
+            "25 2",
+        ),
+        pair(
+            "KEYMGMT reported, conforming and broken",
+            certificate(10, &LEAST, 0, Some(&[0x41; 38])),
+            "ELEMENTS 4\n70 8\n71 1\n72 38\nFE 0\nOPEN 0\n",
+            certificate(10, &LEAST, 1, None),
+            "20 12",
+        ),
+        pair(
+            "CARDAUTH reported, conforming and broken",
+            certificate(11, &LEAST, 0, None),
+            "ELEMENTS 3\n70 8\n71 1\nFE 0\nOPEN 0\n",
+            certificate(11, &LEAST, 0, Some(&[0x41; 39])),
+            "16 15",
         ),
         (
             "report refused: kind 0, no date, and a container of 32,769 bytes; the room is judged before that",

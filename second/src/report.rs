@@ -169,7 +169,7 @@ fn agency_and_system(page: &mut Page, fascn: &[u8]) {
 }
 
 /// The bytes of standard input that the desk program looks at.
-pub const DESK_INPUT_MAX: usize = CONTAINER_MAX + 10;
+pub const DESK_INPUT_MAX: usize = CONTAINER_MAX + 11;
 
 /// What the desk program prints for its standard input.
 pub fn desk(input: &[u8]) -> Vec<u8> {
@@ -180,13 +180,18 @@ pub fn desk(input: &[u8]) -> Vec<u8> {
     }
 }
 
+/// The number that two ASCII digits make.
+fn two_digits(text: &[u8]) -> Option<u64> {
+    match *text {
+        [tens @ b'0'..=b'9', ones @ b'0'..=b'9'] => Some(u64::from(tens - b'0') * 10 + u64::from(ones - b'0')),
+        _ => None,
+    }
+}
+
 fn try_desk(input: &[u8], room: &mut [u8]) -> Result<u64, u64> {
-    let kind = match input.first() {
-        Some(&digit @ b'1'..=b'7') => u64::from(digit - b'0'),
-        _ => return Err(number::KIND),
-    };
-    let today = input.get(1..9).and_then(values::eight_digits).ok_or(number::TODAY)?;
-    match report(kind, today, &input[9..], room) {
+    let kind = input.get(..2).and_then(two_digits).filter(|&kind| card::kind_of(kind).is_some()).ok_or(number::KIND)?;
+    let today = input.get(2..10).and_then(values::eight_digits).ok_or(number::TODAY)?;
+    match report(kind, today, &input[10..], room) {
         (number::DONE, length) => Ok(length),
         (number, _) => Err(number),
     }

@@ -1,7 +1,7 @@
 //! The samples: for each kind a container that conforms on 1 March 2026, and one that breaks a rule in an instructive way.
 
 use crate::generate::{Card, EXAMPLE_DAY, EXAMPLE_FASCN};
-use crate::{report, REPORT_MAX};
+use crate::{report, trees, REPORT_MAX};
 
 pub struct Sample {
     pub kind: u64,
@@ -82,6 +82,21 @@ pub fn face(quality: u8, data: usize, signature: usize) -> Card {
     biometric(7, [0x05, 0x02, 0x20], quality, &vec![0xFF; data], &vec![0x30; signature])
 }
 
+/// A certificate of an RSA key with the extensions of a PIV card, made once with openssl. The holder is invented and signed it
+/// himself; his other names are the FASC-N and the UUID of the other samples.
+pub const RSA: &[u8] = include_bytes!("certificates/rsa2048.der");
+
+/// The same, compressed by gzip.
+pub const COMPRESSED: &[u8] = include_bytes!("certificates/rsa2048.der.gz");
+
+/// A certificate of a key on the curve P-256, made likewise.
+pub const P256: &[u8] = include_bytes!("certificates/p256.der");
+
+/// A card with a certificate: 70, 71, and 72 if it is there.
+pub fn certificate(kind: u64, certificate: &[u8], information: u8, extra: Option<&[u8]>) -> Card {
+    card(kind, &[Some(certificate), Some(&[information]), extra, Some(&[])])
+}
+
 /// The FASC-N of 01's example P2: every character has its parity, and the check character is wrong.
 pub fn wrong_fascn() -> [u8; 25] {
     let mut fascn = EXAMPLE_FASCN;
@@ -112,6 +127,19 @@ pub fn all() -> Vec<Sample> {
         sample("face", face(100, 300, 40)),
         // the quality -1, which fingers may have and a face may not
         sample("face-broken", face(0xFF, 300, 40)),
+        sample("pivauth", certificate(8, RSA, 0, None)),
+        // a certificate that is compressed, and says so in 71: 70 is judged before, and gzip's first byte is no tag
+        sample("pivauth-broken", certificate(8, COMPRESSED, 1, None)),
+        sample("digsig", certificate(9, P256, 0, None)),
+        // the least certificate with an item at level 9
+        sample("digsig-broken", certificate(9, &trees::down_to(9, 5, &[]).bytes(), 0, None)),
+        // the most bytes of 72
+        sample("keymgmt", certificate(10, P256, 0, Some(&[0x41; 38]))),
+        // 71 says that the certificate is compressed, and it is not
+        sample("keymgmt-broken", certificate(10, P256, 1, None)),
+        sample("cardauth", certificate(11, &trees::least().bytes(), 0, Some(&[]))),
+        // a byte more in 72 than there may be
+        sample("cardauth-broken", certificate(11, &trees::least().bytes(), 0, Some(&[0x41; 39]))),
     ]
 }
 

@@ -1,6 +1,6 @@
-//! The rules on single values: FASC-N, UUID, dates, policy, text, CBEFF header, minutiae.
+//! The rules on single values: FASC-N, UUID, dates, policy, text, CBEFF header, minutiae, certificates.
 
-use crate::number;
+use crate::{der, number};
 
 // ---------------------------------------------------------------------------------------------
 // FASC-N
@@ -303,4 +303,22 @@ fn after_view(bytes: &[u8]) -> Option<&[u8]> {
 /// Type and x, zero bits and y, angle, quality.
 fn is_minutia(m: &[u8]) -> bool {
     m[0] >> 6 != 3 && m[2] >> 6 == 0 && m[4] <= 179 && m[5] <= 100
+}
+
+// ---------------------------------------------------------------------------------------------
+// Certificates
+
+/// A certificate has at most this many levels of items, the outermost counted.
+pub const CERTIFICATE_LEVELS: usize = 8;
+
+const SEQUENCE: u8 = 0x30;
+
+/// The rules on the value of 70: 0, or 24, 25. That it is a SEQUENCE of three parts is judged after all parts.
+pub fn certificate(value: &[u8]) -> u64 {
+    match der::whole(value, CERTIFICATE_LEVELS) {
+        Err(der::Fault::Depth) => number::TOO_DEEP,
+        Err(der::Fault::Item) => number::DER,
+        Ok(item) if item.tag == SEQUENCE && item.parts == 3 => number::DONE,
+        Ok(_) => number::DER,
+    }
 }

@@ -1,8 +1,9 @@
 //! 01's examples, and the cases that it names to be run.
 
-use second::card::length_at;
+use second::card::{all_kinds, length_at, LAST_KIND};
 use second::generate::{example_chuid, small, EXAMPLE_DAY, EXAMPLE_DISCOVERY, EXAMPLE_FASCN};
 use second::named::{self, CASE_R};
+use second::report::DESK_INPUT_MAX;
 use second::values::{is_expiry, text_date};
 use second::{check, desk, fascn_decode, fascn_encode, read, report, view, write};
 
@@ -120,7 +121,7 @@ fn p13_p14_discovery() {
 fn case_r() {
     let container = example_chuid(b"20300131");
     assert_eq!(container.len(), 61);
-    let mut input = b"220260301".to_vec();
+    let mut input = b"0220260301".to_vec();
     input.extend(&container);
     assert_eq!(desk(&input), CASE_R.as_bytes());
     for size in [512, 513, 600] {
@@ -184,26 +185,33 @@ fn report_order() {
 
 #[test]
 fn desk_inputs() {
-    assert_eq!(desk(b""), b"refused 1\n");
-    assert_eq!(desk(b"0"), b"refused 1\n");
-    assert_eq!(desk(b"8xxxxxxxx"), b"refused 1\n");
-    assert_eq!(desk(b"2"), b"refused 2\n");
-    assert_eq!(desk(b"22026030"), b"refused 2\n");
-    assert_eq!(desk(b"2202603O1"), b"refused 2\n");
-    assert_eq!(desk(b"220230229"), b"refused 2\n");
-    assert_eq!(
-        desk(b"220260301"),
-        &b"CARD 4\nkind CHUID\nbytes 0\ntoday 20260301\nverdict 10 0\nELEMENTS 0\nOPEN 0\n"[..]
-    );
-    let mut long = b"220260301".to_vec();
-    long.resize(9 + 32_768, 0);
+    // no byte, a lone one, and a pair that is no kind
+    for head in ["", "0", "2", "8", "00", "12", "20", "99", "2 ", " 2", "+2", "x2", "2x"] {
+        assert_eq!(desk(head.as_bytes()), b"refused 1\n", "{}", head);
+        assert_eq!(desk(&[head.as_bytes(), b"\020260301"].concat()), b"refused 1\n", "{}", head);
+    }
+    // with one digit for the kind the date is cut short
+    assert_eq!(desk(b"020260301"), b"refused 2\n");
+    for kind in all_kinds() {
+        let input = format!("{:02}20260301", kind).into_bytes();
+        for length in 2..10 {
+            assert_eq!(desk(&input[..length]), b"refused 2\n");
+        }
+        let report = String::from_utf8(desk(&input)).unwrap();
+        assert!(report.ends_with("\nbytes 0\ntoday 20260301\nverdict 10 0\nELEMENTS 0\nOPEN 0\n"), "{}", report);
+    }
+    assert_eq!(desk(b"02202603O1"), b"refused 2\n");
+    assert_eq!(desk(b"0220230229"), b"refused 2\n");
+    let mut long = b"0220260301".to_vec();
+    long.resize(10 + 32_768, 0);
     assert_eq!(
         desk(&long),
         &b"CARD 4\nkind CHUID\nbytes 32768\ntoday 20260301\nverdict 10 0\nELEMENTS 0\nOPEN 0\n"[..]
     );
     long.push(0);
+    assert_eq!(long.len(), DESK_INPUT_MAX);
     assert_eq!(desk(&long), b"refused 4\n");
-    long[8] = b'x';
+    long[9] = b'x';
     assert_eq!(desk(&long), b"refused 2\n");
     long[0] = b'9';
     assert_eq!(desk(&long), b"refused 1\n");
@@ -231,7 +239,7 @@ fn quality_bytes() {
 
 #[test]
 fn empty_and_outer() {
-    for kind in 1..=7 {
+    for kind in all_kinds() {
         let outer = if kind == 3 { 0x7E } else { 0x53 };
         assert_eq!(check(kind, EXAMPLE_DAY, &[]), (10, 0));
         assert_eq!(check(kind, EXAMPLE_DAY, &[outer ^ 1, 0]), (10, 0));
@@ -243,7 +251,7 @@ fn empty_and_outer() {
         assert_eq!(check(kind, EXAMPLE_DAY, &[outer, 0x00, 0x00]), (12, 0));
         assert_eq!(check(kind, EXAMPLE_DAY, &[outer, 0x00]), (15, 2));
     }
-    for kind in [0, 8, 256 + 2, u64::MAX] {
+    for kind in [0, LAST_KIND + 1, 256 + 2, u64::MAX] {
         assert_eq!(check(kind, 0, &vec![0; 40_000]), (1, 0));
         assert_eq!(view(kind, 0, &[1, 2], 0x30).0, 1);
     }

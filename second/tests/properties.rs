@@ -1,8 +1,8 @@
 //! Properties over generated inputs.
 
 use second::batch::Call;
-use second::card;
-use second::generate::{conforming, conforming_of_size, personal_twin, small, Inputs, Rng, EXAMPLE_DAY};
+use second::card::{self, all_kinds};
+use second::generate::{conforming, conforming_of_size, endless_kinds, personal_twin, small, Inputs, Rng, EXAMPLE_DAY};
 use second::{check, read, report, view, write};
 
 const ROUNDS: usize = 3_000;
@@ -18,7 +18,7 @@ fn report_of(kind: u64, today: u64, container: &[u8]) -> Vec<u8> {
 #[test]
 fn round_trips() {
     let mut rng = Rng::new(1);
-    for kind in 1..=7 {
+    for kind in all_kinds() {
         for _ in 0..ROUNDS {
             let card = conforming(&mut rng, kind);
             let (container, sheet) = (card.container(), card.sheet());
@@ -60,7 +60,8 @@ fn round_trips() {
 #[test]
 fn limits() {
     let mut rng = Rng::new(2);
-    for kind in [2, 6, 7] {
+    assert_eq!(endless_kinds(), [2, 6, 7, 8, 9, 10, 11]);
+    for kind in endless_kinds() {
         for _ in 0..20 {
             let card = conforming_of_size(&mut rng, kind, 32_768);
             let (container, sheet) = (card.container(), card.sheet());
@@ -96,18 +97,18 @@ fn limits() {
 #[test]
 fn reports_hide_personal_bytes() {
     let mut rng = Rng::new(3);
-    let mut changed = [0; 8];
-    for kind in 1..=7 {
+    for kind in all_kinds() {
+        let mut changed = 0;
         for _ in 0..ROUNDS {
             let card = conforming(&mut rng, kind);
             let twin = personal_twin(&mut rng, &card);
             let (one, other) = (card.container(), twin.container());
             assert_eq!(check(kind, card.today, &other), (0, 0));
             assert_eq!(report_of(kind, card.today, &one), report_of(kind, card.today, &other));
-            changed[kind as usize] += usize::from(one != other);
+            changed += usize::from(one != other);
         }
         // DISCOVERY has no personal bytes.
-        assert!(if kind == 3 { changed[3] == 0 } else { changed[kind as usize] > ROUNDS / 2 });
+        assert!(if kind == 3 { changed == 0 } else { changed > ROUNDS / 2 });
     }
 }
 
@@ -115,7 +116,7 @@ fn reports_hide_personal_bytes() {
 #[test]
 fn reports_show_open_values() {
     let mut rng = Rng::new(4);
-    for kind in 1..=7 {
+    for kind in all_kinds() {
         for _ in 0..ROUNDS {
             let one = conforming(&mut rng, kind);
             let mut other = conforming(&mut rng, kind);
@@ -198,7 +199,7 @@ fn calls_agree() {
 
 #[test]
 fn small_ones_conform() {
-    for kind in 1..=7 {
+    for kind in all_kinds() {
         assert_eq!(check(kind, EXAMPLE_DAY, &small(kind)), (0, 0), "kind {}", kind);
     }
 }

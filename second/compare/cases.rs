@@ -1,0 +1,208 @@
+//! The worked cases of tests/cases, whose README.md says how they are written: each call is made by both programs. The inputs of
+//! the desk program are put into a folder, from where tests/worked-cases gives them to it.
+
+use crate::trial::{Fault, Trial};
+use second::batch::{Answer, Call, Record};
+use std::collections::BTreeMap;
+use std::fs;
+
+/// What a case asks, and the answer that it gives.
+enum Case {
+    Called(Record, Answer),
+    /// Standard input, and what is printed.
+    Desk(Vec<u8>, Vec<u8>),
+}
+
+type Outcome<A> = Result<A, String>;
+
+// ---------------------------------------------------------------------------------------------
+// Reading a file
+
+/// The names that a file has given to bytes so far.
+#[derive(Default)]
+struct Names(BTreeMap<String, Vec<u8>>);
+
+impl Names {
+    /// The case of a line, if it has one.
+    fn line(&mut self, line: &str) -> Outcome<Option<Case>> {
+        let words: Vec<&str> = line.split_whitespace().collect();
+        match words[..] {
+            [] => Ok(None),
+            [first, ..] if first.starts_with('#') => Ok(None),
+            ["let", name, "=", ..] => {
+                let bytes = self.bytes(&words[3..])?;
+                self.0.insert(name.to_string(), bytes);
+                Ok(None)
+            }
+            [call, ..] => {
+                let arrow = words.iter().position(|&word| word == "->").ok_or("no answer")?;
+                self.case(call, &words[1..arrow], &words[arrow + 1..]).map(Some)
+            }
+        }
+    }
+
+    fn case(&self, call: &str, asked: &[&str], told: &[&str]) -> Outcome<Case> {
+        if call == "desk" {
+            return Ok(Case::Desk(self.bytes(asked)?, text(told)));
+        }
+        let call = match call {
+            "verdict" => Call::Check,
+            "view" => Call::View,
+            "read" => Call::Read,
+            "write" => Call::Write,
+            _ => return Err(format!("no such call: {}", call)),
+        };
+        let record = self.record(call, asked)?;
+        let answer = self.answer(&record, told)?;
+        Ok(Case::Called(record, answer))
+    }
+
+    fn record(&self, call: Call, asked: &[&str]) -> Outcome<Record> {
+        let (kind, today) = (number(asked.first())?, number(asked.get(1))?);
+        let record = |tag, room, bytes| Record { call, kind, today, tag, room, fill: 0xFF, bytes };
+        Ok(match call {
+            Call::Check => record(0, 0, self.bytes(&asked[2..])?),
+            Call::View => record(hex_number(asked.get(2))?, 0, self.bytes(&asked[3..])?),
+            _ => record(0, number(asked.get(2))? as usize, self.bytes(&asked[3..])?),
+        })
+    }
+
+    fn answer(&self, record: &Record, told: &[&str]) -> Outcome<Answer> {
+        let answer = Answer { number: number(told.first())?, place: number(told.get(1))?, ..Answer::default() };
+        match record.call {
+            Call::Check if told.len() == 2 => Ok(answer),
+            Call::View if told.len() == 4 => {
+                let (offset, length) = (number(told.get(2))?, number(told.get(3))?);
+                let part = record.bytes.get(offset as usize..(offset + length) as usize).ok_or("no such part")?;
+                Ok(Answer { offset, length, part: part.to_vec(), ..answer })
+            }
+            Call::Read | Call::Write => {
+                let length = number(told.get(2))?;
+                let mut room = self.bytes(&told[3..])?;
+                if room.len() as u64 != length || room.len() > record.room {
+                    return Err(format!("{} bytes of output", room.len()));
+                }
+                room.resize(record.room, 0);
+                Ok(Answer { length, room, ..answer })
+            }
+            _ => Err("an answer of another form".to_string()),
+        }
+    }
+
+    fn bytes(&self, items: &[&str]) -> Outcome<Vec<u8>> {
+        let mut out = Vec::new();
+        for item in items {
+            out.extend(self.item(item)?);
+        }
+        Ok(out)
+    }
+
+    fn item(&self, item: &str) -> Outcome<Vec<u8>> {
+        if let Some(name) = item.strip_prefix('@') {
+            return self.0.get(name).cloned().ok_or(format!("no such name: {}", name));
+        }
+        if let Some(text) = item.strip_prefix('\'').and_then(|rest| rest.strip_suffix('\'')) {
+            return Ok(text.as_bytes().to_vec());
+        }
+        match item.split_once('*') {
+            Some((bytes, count)) => Ok(hex(bytes)?.repeat(number(Some(&count))? as usize)),
+            None => hex(item),
+        }
+    }
+}
+
+fn number(word: Option<&&str>) -> Outcome<u64> {
+    let word = word.ok_or("a number is missing")?;
+    word.parse().map_err(|_| format!("no number: {}", word))
+}
+
+fn hex_number(word: Option<&&str>) -> Outcome<u64> {
+    let word = word.ok_or("a tag is missing")?;
+    u64::from_str_radix(word, 16).map_err(|_| format!("no tag: {}", word))
+}
+
+fn hex(digits: &str) -> Outcome<Vec<u8>> {
+    let value = |digit: u8| char::from(digit).to_digit(16).map(|value| value as u8);
+    let byte = |pair: &[u8]| match *pair {
+        [high, low] => Some(value(high)? << 4 | value(low)?),
+        _ => None,
+    };
+    digits.as_bytes().chunks(2).map(byte).collect::<Option<_>>().ok_or(format!("no bytes: {}", digits))
+}
+
+/// The text that stands in a case with a bar between its lines.
+fn text(words: &[&str]) -> Vec<u8> {
+    let lines = words.split(|&word| word == "|").map(|line| line.join(" ") + "\n");
+    lines.collect::<String>().into_bytes()
+}
+
+// ---------------------------------------------------------------------------------------------
+// Running the cases
+
+struct Running<'a> {
+    trial: Trial,
+    folder: &'a str,
+    cases: usize,
+    desk: usize,
+}
+
+impl Running<'_> {
+    fn run(&mut self, case: &Case) -> Outcome<()> {
+        self.cases += 1;
+        match case {
+            Case::Called(record, expected) => {
+                let answer = record.answer();
+                if answer != *expected {
+                    return Err(format!("the second program answers {:?}", answer));
+                }
+                let outcome = self.trial.run(record, expected, &Fault::None);
+                outcome.map_err(|wrong| format!("the library: {}", self.trial.tell(record, wrong)))
+            }
+            Case::Desk(input, expected) => {
+                self.desk += 1;
+                let printed = second::desk(input);
+                if printed != *expected {
+                    return Err(format!("the second program prints {}", String::from_utf8_lossy(&printed)));
+                }
+                self.keep("input", input)?;
+                self.keep("expected", expected)
+            }
+        }
+    }
+
+    /// Puts what belongs to a case of the desk into the folder.
+    fn keep(&self, what: &str, bytes: &[u8]) -> Outcome<()> {
+        let path = format!("{}/{}.{}", self.folder, self.desk, what);
+        fs::write(&path, bytes).map_err(|error| format!("{}: {}", path, error))
+    }
+
+    fn run_line(&mut self, names: &mut Names, place: &str, line: &str) -> Outcome<()> {
+        if let Some(case) = names.line(line)? {
+            self.run(&case)?;
+            if matches!(case, Case::Desk(..)) {
+                self.keep("line", format!("{}: {}\n", place, line).as_bytes())?;
+            }
+        }
+        Ok(())
+    }
+}
+
+/// Runs the cases of the files, tells each that fails, and gives whether none did.
+pub fn all_hold(folder: &str, files: &[&str]) -> bool {
+    let mut running = Running { trial: Trial::new(4), folder, cases: 0, desk: 0 };
+    let mut bad = 0;
+    for file in files {
+        let (mut names, before) = (Names::default(), running.cases);
+        let text = fs::read_to_string(file).unwrap_or_else(|error| panic!("{}: {}", file, error));
+        for (at, line) in text.lines().enumerate() {
+            let place = format!("{}:{}", file, at + 1);
+            if let Err(wrong) = running.run_line(&mut names, &place, line) {
+                println!("{}: {}\n  {}", place, line, wrong);
+                bad += 1;
+            }
+        }
+        assert!(running.cases > before, "{} has no case", file);
+    }
+    println!("{} worked cases, {} wrong", running.cases, bad);
+    bad == 0
+}

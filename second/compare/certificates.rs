@@ -1,0 +1,124 @@
+//! Certificates in DER, as they come from files: they conform as each kind of certificate, and with damage of every sort they are
+//! refused. tests/certificates makes them.
+
+use crate::trial::{Fault, Trial};
+use second::batch::{Answer, Call, Record};
+use second::generate::{certificate_kinds, EXAMPLE_DAY};
+use second::samples::certificate;
+use second::trees::Tree;
+use second::values::CERTIFICATE_LEVELS;
+use second::{number, REPORT_MAX};
+
+/// So many calls that answer something else are shown.
+const SHOWN: usize = 5;
+
+struct Judging {
+    trial: Trial,
+    kinds: Vec<u64>,
+    calls: usize,
+    wrong: usize,
+}
+
+impl Judging {
+    /// Makes a call on both sides. The verdict is as given, and all else is as the second program says.
+    fn call(&mut self, what: &str, record: &Record, number: u64, place: u64) -> Answer {
+        self.calls += 1;
+        let answer = record.answer();
+        let told = if (answer.number, answer.place) == (number, place) {
+            let outcome = self.trial.run(record, &answer, &Fault::None);
+            outcome.err().map(|wrong| self.trial.tell(record, wrong))
+        } else {
+            Some(format!("the second program answers {} {}", answer.number, answer.place))
+        };
+        if let Some(told) = told {
+            self.wrong += 1;
+            if self.wrong <= SHOWN {
+                println!("{}, expected {} {}: {}", what, number, place, told);
+            }
+        }
+        answer
+    }
+
+    /// Checks a value of 70 in a container of each kind. A refusal's place is where 70 stands, behind the outer length.
+    fn check(&mut self, what: &str, value: &[u8], number: u64) {
+        for kind in self.kinds.clone() {
+            let record = given(Call::Check, kind, certificate(kind, value, 0, None).container());
+            let place = match record.bytes[1] {
+                _ if number == number::DONE => 0,
+                0x81 => 3,
+                0x82 => 4,
+                _ => 2,
+            };
+            self.call(what, &record, number, place);
+        }
+    }
+
+    /// All calls on a certificate that conforms: its part is the certificate, and what is read is written back.
+    fn conforms(&mut self, what: &str, value: &[u8]) {
+        self.check(what, value, number::DONE);
+        for kind in self.kinds.clone() {
+            let container = certificate(kind, value, 0, None).container();
+            let view = Record { tag: 0x70, ..given(Call::View, kind, container.clone()) };
+            assert_eq!(self.call(what, &view, 0, 0).part, value, "{}: another part", what);
+            let report = Record { room: REPORT_MAX, ..given(Call::Report, kind, container.clone()) };
+            self.call(what, &report, 0, 0);
+            let read = Record { room: container.len() + 6, ..given(Call::Read, kind, container.clone()) };
+            let answer = self.call(what, &read, 0, 0);
+            let sheet = answer.room[..answer.length as usize].to_vec();
+            let write = Record { room: container.len(), ..given(Call::Write, kind, sheet) };
+            assert_eq!(self.call(what, &write, 0, 0).room, container, "{}: not written back", what);
+        }
+    }
+
+    /// One byte taken out, wherever it is; cut off, wherever; and a byte behind, whichever.
+    fn bytes(&mut self, what: &str, value: &[u8]) {
+        for at in 0..value.len() {
+            let without = [&value[..at], &value[at + 1..]].concat();
+            self.check(&format!("{} without its byte {}", what, at), &without, number::DER);
+            self.check(&format!("{} cut off at {}", what, at), &value[..at], number::DER);
+        }
+        for more in 0..=255 {
+            self.check(&format!("{} with {:02X} behind", what, more), &[value, &[more]].concat(), number::DER);
+        }
+    }
+
+    /// The length of each item in a longer form, with the lengths around it as they then should be.
+    fn lengths(&mut self, what: &str, tree: &Tree) {
+        for item in 0..tree.count() {
+            for longer in tree.with_longer_length(item) {
+                self.check(&format!("{} with a longer length at item {}", what, item), &longer, number::DER);
+            }
+        }
+    }
+
+    /// The certificate as a part of others, down to the last level and below it.
+    fn levels(&mut self, what: &str, tree: &Tree) {
+        let mut tree = tree.clone();
+        while tree.levels() <= CERTIFICATE_LEVELS {
+            self.check(&format!("{}, {} levels", what, tree.levels()), &tree.bytes(), number::DONE);
+            tree = Tree::sequence(vec![Tree::empty(), tree, Tree::empty()]);
+        }
+        self.check(&format!("{}, {} levels", what, tree.levels()), &tree.bytes(), number::TOO_DEEP);
+    }
+}
+
+fn given(call: Call, kind: u64, bytes: Vec<u8>) -> Record {
+    Record { call, kind, today: EXAMPLE_DAY, tag: 0, room: 0, fill: 0xFF, bytes }
+}
+
+/// Judges the certificate in each file, tells what is wrong, and gives whether nothing is.
+pub fn all_judged(files: &[&str]) -> bool {
+    let mut judging = Judging { trial: Trial::new(70), kinds: certificate_kinds(), calls: 0, wrong: 0 };
+    for file in files {
+        let value = std::fs::read(file).unwrap_or_else(|error| panic!("{}: {}", file, error));
+        let tree = Tree::of(&value, CERTIFICATE_LEVELS).unwrap_or_else(|| panic!("{} is no DER item", file));
+        judging.conforms(file, &value);
+        judging.bytes(file, &value);
+        judging.lengths(file, &tree);
+        judging.levels(file, &tree);
+        println!("{}: {} bytes, {} items, {} levels", file, value.len(), tree.count(), tree.levels());
+    }
+    let Judging { kinds, calls, wrong, .. } = judging;
+    println!("{} certificates as {} kinds: {} calls, {} wrong", files.len(), kinds.len(), calls, wrong);
+    wrong == 0 && !files.is_empty() && kinds.len() == 4
+}
