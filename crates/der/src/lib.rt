@@ -57,7 +57,7 @@ fn long_front(s: &[u8]) -> Head
     }
     let mut i: usize = 1;
     while i < k {
-        if 72057594037927935 < n {
+        if 0xFFFFFFFFFFFFFF < n {
             return Head::Broken;
         }
         n = n * 256 + index(s[2 + i]);
