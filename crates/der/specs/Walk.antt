@@ -1,5 +1,6 @@
 -- The same as one walk over the bytes, in byte order, with the first fault that it meets.
-use Prim.Native.Nat.{ℕ, zero, suc, _+_, _-_, _%_, min}
+use Prim.Native.Nat.{ℕ, zero, suc, _+_, _-_, _%_, _≤_, min}
+use mathlib.Core.Path.{_≡_}
 use mathlib.Core.Bool.{cond, _&&_}
 use mathlib.Core.Option.{Option, none, some}
 use mathlib.Core.List.{List, [], _∷_}
@@ -9,6 +10,7 @@ use Rattle.der.specs.Length.{Spelt, readLength}
 use Rattle.der.specs.Der.{opens}
 use Rattle.der.specs.declared.Head.{Head}
 use Rattle.der.specs.declared.Head.the-variants.{Broken, Leaf, Open}
+use Rattle.der.specs.declared.Run.{Run}
 use Rattle.der.specs.declared.Walked.{Walked}
 use Rattle.der.specs.declared.Walked.the-variants.{Whole, Bad, Deep}
 use Rattle.verdicts.specs.Verdicts.{unless}
@@ -63,6 +65,12 @@ items zero [] = Whole 0
 items zero (b ∷ s) = Deep
 items (suc d) s = level (items d) 0 s
 
+-- items at the front that may be passed over at any level: what is there are so many more than behind them
+pub record PassesOver (s : List ℕ) (r : Run) : Type 0 where
+  pub few : r .items ≤ r .bytes
+  pub inside : r .bytes ≤ length s
+  pub on : (d : ℕ) → items (suc d) s ≡ more (r .items) (items (suc d) (drop (r .bytes) s))
+
 -- nothing behind the outermost item, judged last
 abbrev pub ended : ℕ → List ℕ → Walked → Walked
 ended size v (Whole n) = cond (eqb size (length v)) (Whole n) Bad
@@ -80,9 +88,9 @@ judged depth [] = Bad
 judged zero (b ∷ s) = Deep
 judged (suc d) (b ∷ s) = outermost d (headOf (b ∷ s)) (b ∷ s)
 
--- a part counts where the open item is the outermost
-abbrev pub tally : ℕ → ℕ → ℕ
-tally n k = cond (eqb k 0) (n + 1) n
+-- m parts count where the open item is the outermost
+abbrev pub tally : ℕ → ℕ → ℕ → ℕ
+tally n m k = cond (eqb k 0) (n + m) n
 
 -- ---- the numbers: 24 and 25
 

@@ -2,7 +2,7 @@
 ghost use mathlib.Core.Path.{_≡_};
 ghost use Prim.Native.Nat.{_+_, _-_, _<_, _≤_};
 ghost use lib.ListN.{length, take, drop, getD};
-ghost use Rattle.der.specs.Walk.{headed, headOf, items, judged, tally, certificate, depthFor};
+ghost use Rattle.der.specs.Walk.{headOf, headed, items, PassesOver, judged, tally, certificate, depthFor};
 use numbers::index;
 use verdicts::Fault;
 use verdicts::Ruling;
@@ -83,13 +83,55 @@ fn front(s: &[u8]) -> Head
     fitting(index(s[0]), s.len() - 1, n, 1)
 }
 
-// One part more, where the open item is the outermost.
-fn counted(count: usize, level: usize) -> usize
-    requires { ⌜ count < 18446744073709551615 ⌝ }
-    ensures { λ r. ⌜ r ≡ tally count level ⌝ }
+// Items that were passed over: how many, and their bytes.
+struct Run {
+    items: usize,
+    bytes: usize,
+}
+
+// The primitive items at the front with a length of one byte. Items stand mostly in such runs, and nothing has to be kept of
+// them: one test of the tag says that it is primitive and of a number under 31.
+fn leaves(s: &[u8]) -> Run
+    ensures { λ r. ⌜ PassesOver (now (s .entry)) r ⌝ }
+{
+    let mut items: usize = 0;
+    let mut at: usize = 0;
+    while 2 <= s.len() - at {
+        let n = index(s[at + 1]);
+        if 31 <= index(s[at]) % 64 {
+            return Run {
+                items: items,
+                bytes: at,
+            };
+        }
+        if 128 <= n {
+            return Run {
+                items: items,
+                bytes: at,
+            };
+        }
+        if s.len() - at - 2 < n {
+            return Run {
+                items: items,
+                bytes: at,
+            };
+        }
+        items += 1;
+        at += 2 + n;
+    }
+    Run {
+        items: items,
+        bytes: at,
+    }
+}
+
+// So many parts more, where the open item is the outermost.
+fn counted(count: usize, parts: usize, level: usize) -> usize
+    requires { ⌜ count + parts < 18446744073709551616 ⌝ }
+    ensures { λ r. ⌜ r ≡ tally count parts level ⌝ }
 {
     if level == 0 {
-        return count + 1;
+        return count + parts;
     }
     count
 }
@@ -119,11 +161,12 @@ fn parts(v: &[u8], start: usize, stop: usize, depth: usize) -> Walked
         match front(&v[at..end]) {
             Head::Broken => return Walked::Bad,
             Head::Leaf(size) => {
-                count = counted(count, level);
-                at += size;
+                let run = leaves(&v[at + size..end]);
+                count = counted(count, 1 + run.items, level);
+                at += size + run.bytes;
             }
             Head::Open(first, size) => {
-                count = counted(count, level);
+                count = counted(count, 1, level);
                 ends[level] = end;
                 level += 1;
                 end = at + size;
