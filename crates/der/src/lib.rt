@@ -99,22 +99,13 @@ fn leaves(s: &[u8]) -> Run
     while 2 <= s.len() - at {
         let n = index(s[at + 1]);
         if 31 <= index(s[at]) % 64 {
-            return Run {
-                items: items,
-                bytes: at,
-            };
+            break;
         }
         if 128 <= n {
-            return Run {
-                items: items,
-                bytes: at,
-            };
+            break;
         }
         if s.len() - at - 2 < n {
-            return Run {
-                items: items,
-                bytes: at,
-            };
+            break;
         }
         items += 1;
         at += 2 + n;
