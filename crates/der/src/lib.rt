@@ -101,7 +101,7 @@ fn leaves(s: &[u8]) -> Run
         if 31 <= index(s[at]) % 64 {
             break;
         }
-        if 128 <= n {
+        if 127 < n {
             break;
         }
         if s.len() - at - 2 < n {
