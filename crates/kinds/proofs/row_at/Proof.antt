@@ -1,7 +1,13 @@
 -- `kinds::row_at` meets its contract: each arm by its two numbers, each default by the numbers that it is not. Assumes nothing.
+use mathlib.Core.Path.{_≡_}
+use Rattle.kinds.specs.Tables.{certificate, table}
 use Rattle.kinds.proofs.Arms.{of-kind, certificates, none-below, none-above, at-arm, at-default}
 use Rattle.kinds.proofs.row_at.Statement.{statement}
 use Rattle.kinds.proofs.row_at.Tie as tie
+
+-- in the arm of 8 to 11
+four : (c : tie.Then2) → certificate ≡ table (c .before .before .before .args .kind)
+four c = certificates _ (c .before .before .match .rest) (c .before .if1 .left) (c .if2 .taken)
 
 pub row-at-spec : {M : Type 1} → statement M
 row-at-spec =
@@ -55,10 +61,10 @@ row-at-spec =
     (λ c. at-arm (of-kind (c .before .match .keys7)) (c .match8 .keys1))
     (λ c. at-arm (of-kind (c .before .match .keys7)) (c .match8 .keys2))
     (λ c. at-default _ (of-kind (c .before .match .keys7)) (c .match8 .rest))
-    (λ c. at-arm (certificates _ (c .before .before .before .match .rest) (c .before .before .if1 .left) (c .before .if2 .taken)) (c .match9 .keys1))
-    (λ c. at-arm (certificates _ (c .before .before .before .match .rest) (c .before .before .if1 .left) (c .before .if2 .taken)) (c .match9 .keys2))
-    (λ c. at-arm (certificates _ (c .before .before .before .match .rest) (c .before .before .if1 .left) (c .before .if2 .taken)) (c .match9 .keys3))
-    (λ c. at-arm (certificates _ (c .before .before .before .match .rest) (c .before .before .if1 .left) (c .before .if2 .taken)) (c .match9 .keys4))
-    (λ c. at-default _ (certificates _ (c .before .before .before .match .rest) (c .before .before .if1 .left) (c .before .if2 .taken)) (c .match9 .rest))
+    (λ c. at-arm (four (c .before)) (c .match9 .keys1))
+    (λ c. at-arm (four (c .before)) (c .match9 .keys2))
+    (λ c. at-arm (four (c .before)) (c .match9 .keys3))
+    (λ c. at-arm (four (c .before)) (c .match9 .keys4))
+    (λ c. at-default _ (four (c .before)) (c .match9 .rest))
     (λ c. at-default (c .before .before .args .index) (none-below _ (c .if1 .taken)) tt)
     (λ c. at-default (c .before .before .before .args .index) (none-above _ (c .if2 .left)) tt))

@@ -1,7 +1,13 @@
 -- `kinds::row_of` meets its contract: each arm by its two numbers, each default by the numbers that it is not. Assumes nothing.
+use mathlib.Core.Path.{_≡_}
+use Rattle.kinds.specs.Tables.{certificate, table}
 use Rattle.kinds.proofs.Arms.{of-kind, certificates, none-below, none-above, arm, default}
 use Rattle.kinds.proofs.row_of.Statement.{statement}
 use Rattle.kinds.proofs.row_of.Tie as tie
+
+-- in the arm of 8 to 11
+four : (c : tie.Then2) → certificate ≡ table (c .before .before .before .args .kind)
+four c = certificates _ (c .before .before .match .rest) (c .before .if1 .left) (c .if2 .taken)
 
 pub row-of-spec : {M : Type 1} → statement M
 row-of-spec =
@@ -55,10 +61,10 @@ row-of-spec =
     (λ c. arm (of-kind (c .before .match .keys7)) (c .match8 .keys1))
     (λ c. arm (of-kind (c .before .match .keys7)) (c .match8 .keys2))
     (λ c. default _ (of-kind (c .before .match .keys7)) (c .match8 .rest))
-    (λ c. arm (certificates _ (c .before .before .before .match .rest) (c .before .before .if1 .left) (c .before .if2 .taken)) (c .match9 .keys1))
-    (λ c. arm (certificates _ (c .before .before .before .match .rest) (c .before .before .if1 .left) (c .before .if2 .taken)) (c .match9 .keys2))
-    (λ c. arm (certificates _ (c .before .before .before .match .rest) (c .before .before .if1 .left) (c .before .if2 .taken)) (c .match9 .keys3))
-    (λ c. arm (certificates _ (c .before .before .before .match .rest) (c .before .before .if1 .left) (c .before .if2 .taken)) (c .match9 .keys4))
-    (λ c. default _ (certificates _ (c .before .before .before .match .rest) (c .before .before .if1 .left) (c .before .if2 .taken)) (c .match9 .rest))
+    (λ c. arm (four (c .before)) (c .match9 .keys1))
+    (λ c. arm (four (c .before)) (c .match9 .keys2))
+    (λ c. arm (four (c .before)) (c .match9 .keys3))
+    (λ c. arm (four (c .before)) (c .match9 .keys4))
+    (λ c. default _ (four (c .before)) (c .match9 .rest))
     (λ c. default (c .before .before .args .tag) (none-below _ (c .if1 .taken)) tt)
     (λ c. default (c .before .before .before .args .tag) (none-above _ (c .if2 .left)) tt))
