@@ -16,7 +16,7 @@ use std::time::Instant;
 
 #[path = "../examples/rust/prosianek.rs"]
 mod prosianek;
-use prosianek::{prosianek_check, prosianek_fascn_decode, prosianek_fascn_encode, prosianek_read, prosianek_report, prosianek_write};
+use prosianek::{prosianek_check, prosianek_fascn_decode, prosianek_fascn_encode, prosianek_report, prosianek_write};
 
 const TODAY: u64 = 2026_03_01;
 const LARGEST: usize = second::CONTAINER_MAX;
@@ -94,15 +94,14 @@ fn keep<A>(value: &A) {
 #[derive(Clone, Copy)]
 enum Call {
     Check,
-    Read,
     Write,
     Report,
     Decode,
     Encode,
 }
 
-const CONTAINER_CALLS: [(Call, &str); 4] =
-    [(Call::Check, "check"), (Call::Read, "read"), (Call::Write, "write"), (Call::Report, "report")];
+/// The name of a check that is asked for the verdict alone.
+const NO_ROOM: &str = "check, no room";
 
 struct Case {
     what: String,
@@ -149,52 +148,55 @@ impl DerefMut for Bytes {
 fn prosianek(case: &Case, room: &mut [u8], meter: &mut impl Meter) -> Vec<u64> {
     let (kind, input, size) = (case.kind, case.input.as_ptr(), case.input.len());
     let (to, room_size) = (room.as_mut_ptr(), room.len());
-    let (mut place, mut length, mut numbers) = (0, 0, [0; 9]);
-    let (p, l) = (&mut place as *mut u64, &mut length as *mut u64);
+    let (mut place, mut short, mut length, mut numbers) = (0, 0, 0, [0; 9]);
+    let (p, s, l) = (&mut place as *mut u64, &mut short as *mut u64, &mut length as *mut u64);
     let number = unsafe {
         match case.call {
-            Call::Check => meter.measure(|| prosianek_check(kind, TODAY, input, size, p)),
-            Call::Read => meter.measure(|| prosianek_read(kind, TODAY, input, size, to, room_size, p, l)),
+            Call::Check => meter.measure(|| prosianek_check(kind, TODAY, input, size, to, room_size, p, s, l)),
             Call::Write => meter.measure(|| prosianek_write(kind, TODAY, input, size, to, room_size, p, l)),
             Call::Report => meter.measure(|| prosianek_report(kind, TODAY, input, size, to, room_size, l)),
             Call::Decode => meter.measure(|| prosianek_fascn_decode(input, size, &mut numbers)),
             Call::Encode => meter.measure(|| prosianek_fascn_encode(&case.numbers, to, room_size)),
         }
     };
-    [&[number, place, length], &numbers[..]].concat()
+    [&[number, place, short, length], &numbers[..]].concat()
 }
 
 /// The numbers that the Rust program answers, in the same layout.
 fn rust(case: &Case, room: &mut [u8], meter: &mut impl Meter) -> Vec<u64> {
     let (kind, input) = (case.kind, &case.input[..]);
     let mut numbers = [0; 9];
-    let (number, place, length) = match case.call {
+    let (number, place, short, length) = match case.call {
         Call::Check => {
-            let (number, place) = meter.measure(|| second::check(kind, TODAY, input));
-            (number, place, 0)
+            let checked = meter.measure(|| second::check(kind, TODAY, input, room));
+            (checked.number, checked.place, checked.room, checked.length)
         }
-        Call::Read => meter.measure(|| second::read(kind, TODAY, input, room)),
-        Call::Write => meter.measure(|| second::write(kind, TODAY, input, room)),
+        Call::Write => {
+            let (number, place, length) = meter.measure(|| second::write(kind, TODAY, input, room));
+            (number, place, 0, length)
+        }
         Call::Report => {
             let (number, length) = meter.measure(|| second::report(kind, TODAY, input, room));
-            (number, 0, length)
+            (number, 0, 0, length)
         }
         Call::Decode => {
             let (number, decoded) = meter.measure(|| second::fascn_decode(input));
             numbers = decoded;
-            (number, 0, 0)
+            (number, 0, 0, 0)
         }
-        Call::Encode => (meter.measure(|| second::fascn_encode(&case.numbers, room)), 0, 0),
+        Call::Encode => (meter.measure(|| second::fascn_encode(&case.numbers, room)), 0, 0, 0),
     };
-    [&[number, place, length], &numbers[..]].concat()
+    [&[number, place, short, length], &numbers[..]].concat()
 }
 
-/// Both answer 0 and the same, and leave the same in rooms that held something before.
+/// Both answer 0 and the same, and leave the same in rooms that held something before. A check without a room, and no other call,
+/// has a 3 beside its 0.
 fn agree(case: &Case) {
     let (mut one, mut other) = (Bytes::filled(0xA5, case.room), Bytes::filled(0x5A, case.room));
     let answers = (prosianek(case, &mut one, &mut Made), rust(case, &mut other, &mut Made));
     assert!(answers.0 == answers.1 && one[..] == other[..], "{} {}: the answers differ: {:?}", case.what, case.name, answers);
-    assert!(answers.0[0] == 0, "{} {}: refused with {}", case.what, case.name, answers.0[0]);
+    let short = if case.name == NO_ROOM { 3 } else { 0 };
+    assert!(answers.0[..3] == [0, 0, short], "{} {}: refused with {:?}", case.what, case.name, &answers.0[..3]);
 }
 
 // ---------------------------------------------------------------------------------------------
@@ -209,9 +211,9 @@ fn sample(kind: u64) -> Vec<u8> {
 
 fn sheet_of(kind: u64, container: &[u8]) -> Vec<u8> {
     let mut room = vec![0; 2 * LARGEST];
-    let (number, _, length) = second::read(kind, TODAY, container, &mut room);
-    assert!(number == 0, "kind {}: no conforming container", kind);
-    room.truncate(length as usize);
+    let checked = second::check(kind, TODAY, container, &mut room);
+    assert!(checked.number == 0, "kind {}: no conforming container", kind);
+    room.truncate(checked.length as usize);
     room
 }
 
@@ -309,22 +311,26 @@ fn with_minutiae(value: &[u8], count: u8) -> Vec<u8> {
     value
 }
 
-/// The four calls on a container. The rooms of read and write are as long as what is written there, report's has its 512 bytes.
+/// The calls on a container. A check is made without a room and with one as long as the sheet; the room of write is as long as the
+/// container, and report's has its 512 bytes.
 fn container_cases(what: &str, kind: u64, container: &[u8]) -> Vec<Case> {
     let sheet = sheet_of(kind, container);
     let what = format!("{}{}, {} bytes", kind_of(kind).unwrap().name, what, commas(container.len() as u64));
-    CONTAINER_CALLS
-        .iter()
-        .map(|&(call, name)| {
-            let (input, room) = match call {
-                Call::Read => (container, sheet.len()),
-                Call::Write => (&sheet[..], container.len()),
-                Call::Report => (container, second::REPORT_MAX),
-                _ => (container, 0),
-            };
-            Case { what: what.clone(), name, call, kind, input: Bytes::of(input), numbers: [0; 9], room }
-        })
-        .collect()
+    let case = |name, call, input: &[u8], room| Case {
+        what: what.clone(),
+        name,
+        call,
+        kind,
+        input: Bytes::of(input),
+        numbers: [0; 9],
+        room,
+    };
+    vec![
+        case(NO_ROOM, Call::Check, container, 0),
+        case("check, sheet", Call::Check, container, sheet.len()),
+        case("write", Call::Write, &sheet, container.len()),
+        case("report", Call::Report, container, second::REPORT_MAX),
+    ]
 }
 
 /// The check of a certificate of so many items, all but two of them of two bytes.
@@ -334,7 +340,7 @@ fn item_cases(items: usize) -> Vec<Case> {
     assert!(certificate.count() == items);
     let container = container_of(PIVAUTH, &vec![Some(certificate.bytes()), Some(vec![0]), None, Some(vec![])]);
     let mut cases = container_cases(&format!(" of {} items", commas(items as u64)), PIVAUTH, &container);
-    cases.retain(|case| case.name == "check");
+    cases.retain(|case| case.name == NO_ROOM);
     cases
 }
 

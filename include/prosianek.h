@@ -1,4 +1,4 @@
-// The seven calls of Prosianek for C and C++: PIV card data containers (SP 800-73-4) checked, read, written, viewed and
+// The six calls of Prosianek for C and C++: PIV card data containers (SP 800-73-4) checked and read, written, viewed and
 // reported, and FASC-N numbers alone. crates/capi/src/lib.rt of the repository has the functions with their contracts. They are
 // in libprosianek.a, which links into x86-64 programs and needs only the C library's memory functions:
 //     cc program.c $(pkg-config --cflags --libs prosianek)
@@ -87,23 +87,20 @@ enum prosianek_number {
 // In all calls: kind is one of enum prosianek_kind; today is a date as an eight-digit number, such as 20260301; container
 // and size are the container's bytes and how many there are, from the outer tag on.
 
-// Whether a container conforms under the date.
+// Whether a container conforms under the date, and the value sheet of one that does: for each row of the kind's table, in order,
+// a two-byte count, high byte first, which is 0 for an absent element and n + 1 for a value of n bytes, and then the n bytes.
+//   sheet    the lent room, sheet_size its size. PROSIANEK_SHEET_ROOM bytes are always enough, and so are size + 6. With a size of
+//            0 the verdict alone is asked for: it does not depend on the room.
 //   place    where the first broken rule is: the offset of the element's tag in the container; for 15 of the tag found
 //            instead, or the container's end; 0 for 1, 2, 4, for a broken outer tag or length, and when it conforms.
-// Answers 0 if it conforms; else 1, 2, 4, or the first broken rule, 10 to 25.
-uint64_t prosianek_check(uint64_t kind, uint64_t today, const uint8_t *container, size_t size, uint64_t *place);
+//   room     3 if it conforms and the room is under the sheet's length, as one of size 0 always is; else 0.
+//   length   the sheet's length; 0 where none is written.
+// Answers the verdict: 0 if it conforms; else 1, 2, 4, or the first broken rule, 10 to 25. Where it is 0 and *room is 0 too, the
+// room then holds the sheet and zeros; else all zeros.
+uint64_t prosianek_check(uint64_t kind, uint64_t today, const uint8_t *container, size_t size, uint8_t *sheet,
+                         size_t sheet_size, uint64_t *place, uint64_t *room, uint64_t *length);
 
-// The value sheet of a container: for each row of the kind's table, in order, a two-byte count, high byte first, which is 0
-// for an absent element and n + 1 for a value of n bytes, and then the n bytes.
-//   sheet    the lent room, room its size. PROSIANEK_SHEET_ROOM bytes are always enough, and so are size + 6.
-//   place    as prosianek_check gives it; 0 for 3.
-//   length   the sheet's length; 0 on a refusal.
-// Answers 0 if the sheet is written; else what prosianek_check answers, or 3 if the room is under the sheet's length. The room
-// then holds the sheet and zeros; on a refusal all zeros.
-uint64_t prosianek_read(uint64_t kind, uint64_t today, const uint8_t *container, size_t size, uint8_t *sheet, size_t room,
-                        uint64_t *place, uint64_t *length);
-
-// The container of a value sheet. What prosianek_read gave is written back byte for byte.
+// The container of a value sheet. A sheet that prosianek_check gave is written back byte for byte.
 //   sheet    the sheet, size its bytes.
 //   container  the lent room, room its size.
 //   place    where the first broken rule is: the offset in the sheet of the row's count; 0 for 1 to 5 and on a success.

@@ -1,4 +1,4 @@
-// desk KIND TODAY FILE: all seven calls on the container in a file. It prints the desk report, an empty line, and then what
+// desk KIND TODAY FILE: all six calls on the container in a file. It prints the desk report, an empty line, and then what
 // each of the other calls says. examples/rust/desk.rs prints the same text.
 //
 // What it prints of a card is open by the desk's rules: tags, lengths, agency and system. The sheet, and the other seven
@@ -62,6 +62,22 @@ static int there_and_back(const uint8_t *fascn, size_t size) {
     return 1;
 }
 
+// Writes the container of the sheet; whether it is the one that the sheet was read from.
+static int written_back(uint64_t kind, uint64_t today, size_t sheet_length, size_t size) {
+    uint64_t place, length;
+    uint64_t number = prosianek_write(kind, today, sheet, sheet_length, written, sizeof written, &place, &length);
+    if (number != PROSIANEK_DONE) {
+        refused("write", number, place);
+        return 0;
+    }
+    if (length != size || memcmp(written, container, size) != 0) {
+        printf("write: the container did not come back\n");
+        return 0;
+    }
+    printf("write: the container came back byte for byte\n");
+    return 1;
+}
+
 // The file's bytes go to `container`, as many as it holds; whether all were read that there are.
 static int read_file(const char *name, size_t *size) {
     FILE *file = fopen(name, "rb");
@@ -83,36 +99,23 @@ static int tell(uint64_t kind, uint64_t today, size_t size) {
     fwrite(report, 1, length, stdout);
     printf("\n");
 
-    // A container that breaks a rule has no values to read or view: these calls then answer as the check does.
-    uint64_t where;
-    uint64_t verdict = prosianek_check(kind, today, container, size, &where);
-    if (verdict == PROSIANEK_DONE)
-        printf("check: conforms\n");
-    else
-        refused("check", verdict, where);
-
+    // One call gives the verdict and the sheet, whose room is large enough for any. A container that breaks a rule has no values
+    // to read or view: the view then answers as the check does.
     int off = 0;
-    uint64_t place;
-    number = prosianek_read(kind, today, container, size, sheet, sizeof sheet, &place, &length);
-    if (number != verdict || place != where) off = 1;
-    if (number != PROSIANEK_DONE) {
-        refused("read", number, place);
+    uint64_t where, room;
+    uint64_t verdict = prosianek_check(kind, today, container, size, sheet, sizeof sheet, &where, &room, &length);
+    if (verdict != PROSIANEK_DONE) {
+        refused("check", verdict, where);
+    } else if (room != PROSIANEK_DONE) {
+        printf("check: conforms, without room for its sheet\n");
+        off = 1;
     } else {
-        printf("read: a sheet of %" PRIu64 " bytes\n", length);
-        number = prosianek_write(kind, today, sheet, length, written, sizeof written, &place, &length);
-        if (number != PROSIANEK_DONE) {
-            refused("write", number, place);
-            off = 1;
-        } else if (length == size && memcmp(written, container, size) == 0) {
-            printf("write: the container came back byte for byte\n");
-        } else {
-            printf("write: the container did not come back\n");
-            off = 1;
-        }
+        printf("check: conforms, with a sheet of %" PRIu64 " bytes\n", length);
+        if (!written_back(kind, today, length, size)) off = 1;
     }
 
     // The kind is one of the eleven here, or the report would have been refused.
-    uint64_t offset;
+    uint64_t place, offset;
     number = prosianek_view(kind, today, container, size, tags[kind], &place, &offset, &length);
     if (number != verdict || place != where) off = 1;
     if (number != PROSIANEK_DONE) {

@@ -32,14 +32,14 @@ static const uint8_t too_large[PROSIANEK_LARGEST_CONTAINER + 1];
 
 // What the calls are lent. The room is longer than any size that is lent of it, so that a byte written behind it shows.
 static uint8_t room[1024];
-static uint64_t place, offset, length, numbers[9];
+static uint64_t place, beside, offset, length, numbers[9];
 
 static int calls, bad;
 
 // Before each call: something stale in everything that is lent.
 static void stale(void) {
     memset(room, STALE, sizeof room);
-    place = offset = length = STALE;
+    place = beside = offset = length = STALE;
     for (int i = 0; i < 9; i++) numbers[i] = STALE;
 }
 
@@ -69,18 +69,21 @@ static void leaves(const char *what, size_t used, size_t size) {
         }
 }
 
-static void check(const char *what, uint64_t kind, uint64_t today, const uint8_t *c, size_t size, uint64_t expected) {
+// A check that writes no sheet: a refusal, with 0 beside it, or 3 beside 0.
+static void check(const char *what, uint64_t kind, uint64_t today, const uint8_t *c, size_t size, size_t lent,
+                  uint64_t expected) {
+    uint64_t room_number = expected == PROSIANEK_DONE ? PROSIANEK_SMALL_ROOM : PROSIANEK_DONE;
     stale();
-    answers(what, prosianek_check(kind, today, c, size, &place), expected);
-    if (place != 0) wrong(what, "a place");
+    answers(what, prosianek_check(kind, today, c, size, room, lent, &place, &beside, &length), expected);
+    if (place != 0 || length != 0) wrong(what, "a place or a length");
+    if (beside != room_number) wrong(what, "another number beside the verdict");
+    leaves(what, 0, lent);
 }
 
-static void read(const char *what, uint64_t kind, uint64_t today, const uint8_t *c, size_t size, size_t lent,
-                 uint64_t expected) {
-    stale();
-    answers(what, prosianek_read(kind, today, c, size, room, lent, &place, &length), expected);
-    if (place != 0 || length != 0) wrong(what, "a place or a length");
-    leaves(what, 0, lent);
+// A refusal is the same with a room that would do, and with none.
+static void refuses(const char *what, uint64_t kind, uint64_t today, const uint8_t *c, size_t size, uint64_t expected) {
+    check(what, kind, today, c, size, 100, expected);
+    check(what, kind, today, c, size, 0, expected);
 }
 
 static void write(const char *what, uint64_t kind, uint64_t today, const uint8_t *s, size_t size, size_t lent,
@@ -106,15 +109,15 @@ static void report(const char *what, uint64_t kind, uint64_t today, const uint8_
     leaves(what, 0, lent);
 }
 
-// A container that breaks a rule of a value: check, read and view all answer its number and its place.
+// A container that breaks a rule of a value: check, with a room and without one, and view all answer its number and its place.
 static void breaks(const char *what, uint64_t kind, const uint8_t *c, size_t size, uint64_t expected, uint64_t where) {
-    stale();
-    answers(what, prosianek_check(kind, TODAY, c, size, &place), expected);
-    if (place != where) wrong(what, "another place of check");
-    stale();
-    answers(what, prosianek_read(kind, TODAY, c, size, room, 100, &place, &length), expected);
-    if (place != where || length != 0) wrong(what, "another place of read, or a length");
-    leaves(what, 0, 100);
+    for (size_t lent = 0; lent <= 100; lent += 100) {
+        stale();
+        answers(what, prosianek_check(kind, TODAY, c, size, room, lent, &place, &beside, &length), expected);
+        if (place != where || length != 0) wrong(what, "another place of check, or a length");
+        if (beside != PROSIANEK_DONE) wrong(what, "a number beside a broken rule");
+        leaves(what, 0, lent);
+    }
     stale();
     answers(what, prosianek_view(kind, TODAY, c, size, 0x70, &place, &offset, &length), expected);
     if (place != where || offset != 0 || length != 0) wrong(what, "another place of view, an offset or a length");
@@ -123,7 +126,7 @@ static void breaks(const char *what, uint64_t kind, const uint8_t *c, size_t siz
 // A certificate that conforms, and the same with a byte changed.
 static void certificates(uint64_t kind) {
     uint8_t changed[sizeof certificate];
-    check("check, a certificate", kind, TODAY, certificate, sizeof certificate, PROSIANEK_DONE);
+    check("check, a certificate, no room", kind, TODAY, certificate, sizeof certificate, 0, PROSIANEK_DONE);
     breaks("an item at level 9", kind, too_deep, sizeof too_deep, PROSIANEK_TOO_DEEP, 2);
     memcpy(changed, certificate, sizeof changed);
     changed[4] = 0x31;
@@ -154,15 +157,15 @@ int main(void) {
     // A sheet to write from. This call succeeds, and leaves zeros after the sheet.
     static uint8_t sheet[SHEET_BYTES + 1];
     stale();
-    answers("read", prosianek_read(PROSIANEK_CHUID, TODAY, chuid, sizeof chuid, room, 100, &place, &length), PROSIANEK_DONE);
-    if (place != 0 || length != SHEET_BYTES) wrong("read", "not the sheet's length");
-    leaves("read", SHEET_BYTES, 100);
+    answers("check", prosianek_check(PROSIANEK_CHUID, TODAY, chuid, sizeof chuid, room, 100, &place, &beside, &length),
+            PROSIANEK_DONE);
+    if (place != 0 || beside != PROSIANEK_DONE || length != SHEET_BYTES) wrong("check", "not the sheet's length");
+    leaves("check", SHEET_BYTES, 100);
     memcpy(sheet, room, SHEET_BYTES);
 
     static const uint64_t kinds[] = {0, 12, UINT64_MAX};
     for (int i = 0; i < 3; i++) {
-        check("check, bad kind", kinds[i], TODAY, chuid, sizeof chuid, PROSIANEK_UNKNOWN_KIND);
-        read("read, bad kind", kinds[i], TODAY, chuid, sizeof chuid, 100, PROSIANEK_UNKNOWN_KIND);
+        refuses("check, bad kind", kinds[i], TODAY, chuid, sizeof chuid, PROSIANEK_UNKNOWN_KIND);
         write("write, bad kind", kinds[i], TODAY, sheet, SHEET_BYTES, 100, PROSIANEK_UNKNOWN_KIND);
         view("view, bad kind", kinds[i], TODAY, chuid, sizeof chuid, 0x30, PROSIANEK_UNKNOWN_KIND);
         report("report, bad kind", kinds[i], TODAY, chuid, sizeof chuid, 512, PROSIANEK_UNKNOWN_KIND);
@@ -170,25 +173,23 @@ int main(void) {
 
     static const uint64_t dates[] = {0, 20260229, 100000101, UINT64_MAX};
     for (int i = 0; i < 4; i++) {
-        check("check, bad date", PROSIANEK_CHUID, dates[i], chuid, sizeof chuid, PROSIANEK_NO_DATE);
-        read("read, bad date", PROSIANEK_CHUID, dates[i], chuid, sizeof chuid, 100, PROSIANEK_NO_DATE);
+        refuses("check, bad date", PROSIANEK_CHUID, dates[i], chuid, sizeof chuid, PROSIANEK_NO_DATE);
         write("write, bad date", PROSIANEK_CHUID, dates[i], sheet, SHEET_BYTES, 100, PROSIANEK_NO_DATE);
         view("view, bad date", PROSIANEK_CHUID, dates[i], chuid, sizeof chuid, 0x30, PROSIANEK_NO_DATE);
         report("report, bad date", PROSIANEK_CHUID, dates[i], chuid, sizeof chuid, 512, PROSIANEK_NO_DATE);
     }
 
-    // Rooms one byte too small, and of no bytes at all: the pointer is not null there either.
+    // Rooms one byte too small, and of no bytes at all: the pointer is not null there either. A check's 3 stands beside its 0.
     report("report, a room of 511", PROSIANEK_CHUID, TODAY, chuid, sizeof chuid, 511, PROSIANEK_SMALL_ROOM);
     report("report, no room", PROSIANEK_CHUID, TODAY, chuid, sizeof chuid, 0, PROSIANEK_SMALL_ROOM);
-    read("read, a small room", PROSIANEK_CHUID, TODAY, chuid, sizeof chuid, SHEET_BYTES - 1, PROSIANEK_SMALL_ROOM);
-    read("read, no room", PROSIANEK_CHUID, TODAY, chuid, sizeof chuid, 0, PROSIANEK_SMALL_ROOM);
+    check("check, a small room", PROSIANEK_CHUID, TODAY, chuid, sizeof chuid, SHEET_BYTES - 1, PROSIANEK_DONE);
+    check("check, no room", PROSIANEK_CHUID, TODAY, chuid, sizeof chuid, 0, PROSIANEK_DONE);
     write("write, a small room", PROSIANEK_CHUID, TODAY, sheet, SHEET_BYTES, sizeof chuid - 1, PROSIANEK_SMALL_ROOM);
     write("write, no room", PROSIANEK_CHUID, TODAY, sheet, SHEET_BYTES, 0, PROSIANEK_SMALL_ROOM);
 
     // A container of no bytes has no outer tag; one of 32,769 is too large.
-    check("check, no bytes", PROSIANEK_CHUID, TODAY, chuid, 0, PROSIANEK_OUTER_TAG);
-    check("check, 32,769 bytes", PROSIANEK_CHUID, TODAY, too_large, sizeof too_large, PROSIANEK_LARGE_CONTAINER);
-    read("read, 32,769 bytes", PROSIANEK_CHUID, TODAY, too_large, sizeof too_large, 100, PROSIANEK_LARGE_CONTAINER);
+    refuses("check, no bytes", PROSIANEK_CHUID, TODAY, chuid, 0, PROSIANEK_OUTER_TAG);
+    refuses("check, 32,769 bytes", PROSIANEK_CHUID, TODAY, too_large, sizeof too_large, PROSIANEK_LARGE_CONTAINER);
     view("view, 32,769 bytes", PROSIANEK_CHUID, TODAY, too_large, sizeof too_large, 0x30, PROSIANEK_LARGE_CONTAINER);
     report("report, 32,769 bytes", PROSIANEK_CHUID, TODAY, too_large, sizeof too_large, 512, PROSIANEK_LARGE_CONTAINER);
 

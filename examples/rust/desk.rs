@@ -1,4 +1,4 @@
-//! desk KIND TODAY FILE: all seven calls on the container in a file. It prints the desk report, an empty line, and then what
+//! desk KIND TODAY FILE: all six calls on the container in a file. It prints the desk report, an empty line, and then what
 //! each of the other calls says. examples/c/desk.c prints the same text, and says what is printed and why no more.
 //!
 //! Exit status, as that of the desk: 0 if the container conforms; 1 if it breaks a rule, the report is refused or the calls
@@ -69,41 +69,26 @@ fn tell(out: &mut impl Write, kind: u64, today: u64, container: &[u8]) -> io::Re
     }
     writeln!(out)?;
 
-    // A container that breaks a rule has no values to read or view: these calls then answer as the check does.
-    let verdict = prosianek::check(kind, today, container);
-    match verdict {
-        Ok(()) => writeln!(out, "check: conforms")?,
-        Err(r) => refused(out, "check", r)?,
-    }
-
+    // One call gives the verdict and the sheet, whose room is large enough for any. A container that breaks a rule has no values
+    // to read or view: the view then answers as the check does.
     let mut off = false;
     let mut sheet = vec![0; prosianek::SHEET_ROOM];
-    let read = prosianek::read(kind, today, container, &mut sheet);
-    off |= read.map(|_| ()) != verdict;
-    match read {
-        Err(r) => refused(out, "read", r)?,
-        Ok(length) => {
-            writeln!(out, "read: a sheet of {length} bytes")?;
-            let mut written = vec![0; prosianek::LARGEST_CONTAINER];
-            match prosianek::write(kind, today, &sheet[..length], &mut written) {
-                Err(r) => {
-                    refused(out, "write", r)?;
-                    off = true;
-                }
-                Ok(length) if written[..length] == container[..] => {
-                    writeln!(out, "write: the container came back byte for byte")?
-                }
-                Ok(_) => {
-                    writeln!(out, "write: the container did not come back")?;
-                    off = true;
-                }
-            }
+    let verdict = prosianek::check(kind, today, container, &mut sheet);
+    match verdict {
+        Err(r) => refused(out, "check", r)?,
+        Ok(None) => {
+            writeln!(out, "check: conforms, without room for its sheet")?;
+            off = true;
+        }
+        Ok(Some(length)) => {
+            writeln!(out, "check: conforms, with a sheet of {length} bytes")?;
+            off |= !written_back(out, kind, today, &sheet[..length], container)?;
         }
     }
 
     let tag = tag_of(kind);
     let view = prosianek::view(kind, today, container, tag);
-    off |= view.clone().map(|_| ()) != verdict;
+    off |= view.clone().err() != verdict.err();
     match view {
         Err(r) => refused(out, "view", r)?,
         Ok(range) => {
@@ -115,6 +100,31 @@ fn tell(out: &mut impl Write, kind: u64, today: u64, container: &[u8]) -> io::Re
         }
     }
     Ok(!off && verdict.is_ok())
+}
+
+/// Writes the container of a sheet; whether it is the one that the sheet was read from.
+fn written_back(
+    out: &mut impl Write,
+    kind: u64,
+    today: u64,
+    sheet: &[u8],
+    container: &[u8],
+) -> io::Result<bool> {
+    let mut written = vec![0; prosianek::LARGEST_CONTAINER];
+    match prosianek::write(kind, today, sheet, &mut written) {
+        Err(r) => {
+            refused(out, "write", r)?;
+            Ok(false)
+        }
+        Ok(length) if written[..length] == *container => {
+            writeln!(out, "write: the container came back byte for byte")?;
+            Ok(true)
+        }
+        Ok(_) => {
+            writeln!(out, "write: the container did not come back")?;
+            Ok(false)
+        }
+    }
 }
 
 /// Decodes a FASC-N and encodes it again; whether it came back.

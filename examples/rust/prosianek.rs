@@ -1,4 +1,4 @@
-//! The seven calls of Prosianek for Rust: safe functions over include/prosianek.h, which says more of each. To use them in a
+//! The six calls of Prosianek for Rust: safe functions over include/prosianek.h, which says more of each. To use them in a
 //! project of your own, copy this file, and give rustc the folder of libprosianek.a (`-L native=FOLDER`).
 //!
 //! What C callers have to see to, Rust's references bring: they are valid and never null, and what is lent for writing
@@ -42,16 +42,10 @@ extern "C" {
         today: u64,
         container: *const u8,
         size: usize,
-        place: *mut u64,
-    ) -> u64;
-    pub fn prosianek_read(
-        kind: u64,
-        today: u64,
-        container: *const u8,
-        size: usize,
         sheet: *mut u8,
-        room: usize,
+        sheet_size: usize,
         place: *mut u64,
+        room: *mut u64,
         length: *mut u64,
     ) -> u64;
     pub fn prosianek_write(
@@ -98,20 +92,19 @@ fn answer<T>(number: u64, place: u64, value: T) -> Result<T, Refused> {
     }
 }
 
-/// Whether a container conforms; or the first broken rule.
-pub fn check(kind: u64, today: u64, container: &[u8]) -> Result<(), Refused> {
-    let mut place = 0;
-    let number =
-        unsafe { prosianek_check(kind, today, container.as_ptr(), container.len(), &mut place) };
-    answer(number, place, ())
-}
-
-/// Writes the value sheet of a container into the room and gives its length. On a refusal the room is all zeros, else zeros
-/// follow the sheet; so it is in all calls that are lent a room.
-pub fn read(kind: u64, today: u64, container: &[u8], sheet: &mut [u8]) -> Result<usize, Refused> {
-    let (mut place, mut length) = (0, 0);
+/// Whether a container conforms, or the first broken rule. The value sheet of one that conforms is written into the room, and
+/// its length is given; or none, where the room is under that length (the 3 beside a verdict of 0). So an empty room asks for the
+/// verdict alone. Zeros follow a sheet, and where none is written the room is all zeros; so it is, on a success and on a refusal,
+/// in all calls that are lent a room.
+pub fn check(
+    kind: u64,
+    today: u64,
+    container: &[u8],
+    sheet: &mut [u8],
+) -> Result<Option<usize>, Refused> {
+    let (mut place, mut room, mut length) = (0, 0, 0);
     let number = unsafe {
-        prosianek_read(
+        prosianek_check(
             kind,
             today,
             container.as_ptr(),
@@ -119,10 +112,11 @@ pub fn read(kind: u64, today: u64, container: &[u8], sheet: &mut [u8]) -> Result
             sheet.as_mut_ptr(),
             sheet.len(),
             &mut place,
+            &mut room,
             &mut length,
         )
     };
-    answer(number, place, length as usize)
+    answer(number, place, (room == 0).then(|| length as usize))
 }
 
 /// Writes the container of a value sheet into the room and gives its length. A refusal's place is that of the row's count in

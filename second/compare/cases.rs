@@ -45,48 +45,51 @@ impl Names {
         if call == "desk" {
             return Ok(Case::Desk(self.bytes(asked)?, text(told)));
         }
-        let call = match call {
-            "verdict" => Call::Check,
-            "view" => Call::View,
-            "read" => Call::Read,
-            "write" => Call::Write,
-            _ => return Err(format!("no such call: {}", call)),
-        };
         let record = self.record(call, asked)?;
-        let answer = self.answer(&record, told)?;
+        let answer = self.answer(call, &record, told)?;
         Ok(Case::Called(record, answer))
     }
 
-    fn record(&self, call: Call, asked: &[&str]) -> Outcome<Record> {
+    fn record(&self, call: &str, asked: &[&str]) -> Outcome<Record> {
         let (kind, today) = (number(asked.first())?, number(asked.get(1))?);
-        let record = |tag, room, bytes| Record { call, kind, today, tag, room, fill: 0xFF, bytes };
+        let record = |call, tag, room, bytes| Record { call, kind, today, tag, room, fill: 0xFF, bytes };
+        let room = || number(asked.get(2)).map(|room| room as usize);
         Ok(match call {
-            Call::Check => record(0, 0, self.bytes(&asked[2..])?),
-            Call::View => record(hex_number(asked.get(2))?, 0, self.bytes(&asked[3..])?),
-            _ => record(0, number(asked.get(2))? as usize, self.bytes(&asked[3..])?),
+            "verdict" => record(Call::Check, 0, 0, self.bytes(&asked[2..])?),
+            "merged" => record(Call::Check, 0, room()?, self.bytes(&asked[3..])?),
+            "view" => record(Call::View, hex_number(asked.get(2))?, 0, self.bytes(&asked[3..])?),
+            "write" => record(Call::Write, 0, room()?, self.bytes(&asked[3..])?),
+            _ => return Err(format!("no such call: {}", call)),
         })
     }
 
-    fn answer(&self, record: &Record, told: &[&str]) -> Outcome<Answer> {
+    fn answer(&self, call: &str, record: &Record, told: &[&str]) -> Outcome<Answer> {
         let answer = Answer { number: number(told.first())?, place: number(told.get(1))?, ..Answer::default() };
-        match record.call {
-            Call::Check if told.len() == 2 => Ok(answer),
-            Call::View if told.len() == 4 => {
-                let (offset, length) = (number(told.get(2))?, number(told.get(3))?);
+        match (call, &told[2..]) {
+            // no room is lent: it is too short for a sheet, which is told beside a 0 only
+            ("verdict", []) => Ok(Answer { short: if answer.number == 0 { 3 } else { 0 }, ..answer }),
+            ("merged", [short, output @ ..]) => {
+                Ok(Answer { short: number(Some(short))?, ..self.with_output(answer, record.room, output)? })
+            }
+            ("view", [offset, length]) => {
+                let (offset, length) = (number(Some(offset))?, number(Some(length))?);
                 let part = record.bytes.get(offset as usize..(offset + length) as usize).ok_or("no such part")?;
                 Ok(Answer { offset, length, part: part.to_vec(), ..answer })
             }
-            Call::Read | Call::Write => {
-                let length = number(told.get(2))?;
-                let mut room = self.bytes(&told[3..])?;
-                if room.len() as u64 != length || room.len() > record.room {
-                    return Err(format!("{} bytes of output", room.len()));
-                }
-                room.resize(record.room, 0);
-                Ok(Answer { length, room, ..answer })
-            }
+            ("write", output) => self.with_output(answer, record.room, output),
             _ => Err("an answer of another form".to_string()),
         }
+    }
+
+    /// The answer with the length of what is written into a room, and with the room: what is written, and zeros.
+    fn with_output(&self, answer: Answer, size: usize, told: &[&str]) -> Outcome<Answer> {
+        let length = number(told.first())?;
+        let mut room = self.bytes(&told[1..])?;
+        if room.len() as u64 != length || room.len() > size {
+            return Err(format!("{} bytes of output", room.len()));
+        }
+        room.resize(size, 0);
+        Ok(Answer { length, room, ..answer })
     }
 
     fn bytes(&self, items: &[&str]) -> Outcome<Vec<u8>> {

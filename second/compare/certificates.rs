@@ -39,7 +39,8 @@ impl Judging {
         answer
     }
 
-    /// Checks a value of 70 in a container of each kind. A refusal's place is where 70 stands, behind the outer length.
+    /// Checks a value of 70 in a container of each kind, without a room. A refusal's place is where 70 stands, behind the outer
+    /// length.
     fn check(&mut self, what: &str, value: &[u8], number: u64) {
         for kind in self.kinds.clone() {
             let record = given(Call::Check, kind, certificate(kind, value, 0, None).container());
@@ -53,7 +54,7 @@ impl Judging {
         }
     }
 
-    /// All calls on a certificate that conforms: its part is the certificate, and what is read is written back.
+    /// All calls on a certificate that conforms: its part is the certificate, and its sheet is written back.
     fn conforms(&mut self, what: &str, value: &[u8]) {
         self.check(what, value, number::DONE);
         for kind in self.kinds.clone() {
@@ -62,8 +63,8 @@ impl Judging {
             assert_eq!(self.call(what, &view, 0, 0).part, value, "{}: another part", what);
             let report = Record { room: REPORT_MAX, ..given(Call::Report, kind, container.clone()) };
             self.call(what, &report, 0, 0);
-            let read = Record { room: container.len() + 6, ..given(Call::Read, kind, container.clone()) };
-            let answer = self.call(what, &read, 0, 0);
+            let check = Record { room: container.len() + 6, ..given(Call::Check, kind, container.clone()) };
+            let answer = self.call(what, &check, 0, 0);
             let sheet = answer.room[..answer.length as usize].to_vec();
             let write = Record { room: container.len(), ..given(Call::Write, kind, sheet) };
             assert_eq!(self.call(what, &write, 0, 0).room, container, "{}: not written back", what);

@@ -42,7 +42,7 @@ impl Comparison {
     fn compare(&mut self, record: &Record, expected: &Answer) {
         self.calls += 1;
         match self.trial.run(record, expected, &Fault::None) {
-            Ok(()) => self.tally.count(record.call, expected.number),
+            Ok(()) => self.tally.count(record.call, expected),
             Err(wrong) => self.differs(|trial| trial.tell(record, wrong)),
         }
     }

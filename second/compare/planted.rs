@@ -14,7 +14,8 @@ const CALLS: usize = 300;
 const SHOWN: usize = 5;
 
 /// Faults are planted in each of these.
-const STRETCHES: [&str; 9] = ["number", "place", "offset", "length", "part", "numbers", "room", "input", "guard"];
+const STRETCHES: [&str; 10] =
+    ["number", "place", "short", "offset", "length", "part", "numbers", "room", "input", "guard"];
 
 /// A fault, in words too, and what has to be seen of it.
 type Planted = (&'static str, Fault, Wrong);

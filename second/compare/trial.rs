@@ -79,8 +79,8 @@ fn lent(call: Call, expected: &Answer) -> Vec<(&'static str, Vec<u8>)> {
     let place = || ("place", native(&[expected.place]));
     let length = || ("length", native(&[expected.length]));
     match call {
-        Call::Check => vec![place()],
-        Call::Read | Call::Write => vec![room(), place(), length()],
+        Call::Check => vec![room(), place(), ("short", native(&[expected.short])), length()],
+        Call::Write => vec![room(), place(), length()],
         Call::View => vec![place(), ("offset", native(&[expected.offset])), length()],
         Call::Report => vec![room(), length()],
         Call::FascnDecode => vec![("numbers", native(&expected.numbers))],
@@ -216,8 +216,10 @@ impl Trial {
         let (input, size) = (at("input") as *const u8, record.bytes.len());
         let number = unsafe {
             match record.call {
-                Call::Check => prosianek_check(kind, today, input, size, lent("place")),
-                Call::Read => prosianek_read(kind, today, input, size, at("room"), room, lent("place"), lent("length")),
+                Call::Check => {
+                    let (place, short, length) = (lent("place"), lent("short"), lent("length"));
+                    prosianek_check(kind, today, input, size, at("room"), room, place, short, length)
+                }
                 Call::Write => {
                     prosianek_write(kind, today, input, size, at("room"), room, lent("place"), lent("length"))
                 }

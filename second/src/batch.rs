@@ -1,13 +1,13 @@
 //! The calls of a batch, what is answered to them, and how often each number is.
 
-use crate::{card, number, report, values};
+use crate::card::{self, Checked};
+use crate::{number, report, values};
 use std::collections::BTreeMap;
 use std::fmt;
 
 #[derive(Clone, Copy, Debug, PartialEq, Eq, PartialOrd, Ord)]
 pub enum Call {
     Check,
-    Read,
     Write,
     View,
     Report,
@@ -16,13 +16,12 @@ pub enum Call {
 }
 
 impl Call {
-    pub const ALL: [Call; 7] =
-        [Call::Check, Call::Read, Call::Write, Call::View, Call::Report, Call::FascnDecode, Call::FascnEncode];
+    pub const ALL: [Call; 6] =
+        [Call::Check, Call::Write, Call::View, Call::Report, Call::FascnDecode, Call::FascnEncode];
 
     pub fn name(self) -> &'static str {
         match self {
             Call::Check => "check",
-            Call::Read => "read",
             Call::Write => "write",
             Call::View => "view",
             Call::Report => "report",
@@ -55,6 +54,8 @@ pub struct Record {
 pub struct Answer {
     pub number: u64,
     pub place: u64,
+    /// A check's 3 for a room that is too short, beside a verdict of 0.
+    pub short: u64,
     /// Where a view's part starts in the container.
     pub offset: u64,
     /// The length of what was written into the room, or of a view's part.
@@ -83,12 +84,8 @@ impl Record {
         let mut room = vec![self.fill; self.room];
         match self.call {
             Call::Check => {
-                let (number, place) = card::check(kind, today, bytes);
-                Answer { number, place, ..Answer::default() }
-            }
-            Call::Read => {
-                let (number, place, length) = card::read(kind, today, bytes, &mut room);
-                Answer { number, place, length, room, ..Answer::default() }
+                let Checked { number, place, room: short, length } = card::check(kind, today, bytes, &mut room);
+                Answer { number, place, short, length, room, ..Answer::default() }
             }
             Call::Write => {
                 let (number, place, length) = card::write(kind, today, bytes, &mut room);
@@ -115,13 +112,17 @@ impl Record {
     }
 }
 
-/// How often each number was answered, by call.
+/// How often each number was answered, by call. A check's 3 is counted beside its 0.
 #[derive(Default)]
 pub struct Tally(BTreeMap<Call, BTreeMap<u64, u64>>);
 
 impl Tally {
-    pub fn count(&mut self, call: Call, number: u64) {
-        *self.0.entry(call).or_default().entry(number).or_default() += 1;
+    pub fn count(&mut self, call: Call, answer: &Answer) {
+        let numbers = self.0.entry(call).or_default();
+        *numbers.entry(answer.number).or_default() += 1;
+        if answer.short != number::DONE {
+            *numbers.entry(answer.short).or_default() += 1;
+        }
     }
 
     /// The numbers that were never answered; 8 cannot occur.

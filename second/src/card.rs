@@ -1,4 +1,4 @@
-//! Containers: check, read into a value sheet, write from a value sheet, view of one element.
+//! Containers: check, with the value sheet of one that conforms, write from a value sheet, view of one element.
 
 use crate::values;
 use crate::{number, CONTAINER_MAX};
@@ -294,45 +294,38 @@ where
     Ok(kind)
 }
 
-/// Whether the container conforms: number and place.
-pub fn check(kind: u64, today: u64, container: &[u8]) -> (u64, u64) {
-    match checked(kind, today, container, |_, _, _| ()) {
-        Ok(_) => (number::DONE, 0),
-        Err(refusal) => refusal,
-    }
+/// What check answers.
+#[derive(Clone, Copy, Debug, PartialEq, Eq)]
+pub struct Checked {
+    /// The verdict's number and place.
+    pub number: u64,
+    pub place: u64,
+    /// 3 beside a verdict of 0 where the room is shorter than the sheet; else 0.
+    pub room: u64,
+    /// The length of the sheet; 0 where none was written.
+    pub length: u64,
 }
 
-/// Writes the container's value sheet into the room: number, place, length of the sheet.
-pub fn read(kind: u64, today: u64, container: &[u8], room: &mut [u8]) -> (u64, u64, u64) {
-    let outcome = try_read(kind, today, container, room);
-    settled(outcome, room)
-}
-
-/// Zeros behind what was written, or in the whole room after a refusal: number, place, length.
-fn settled(outcome: Result<usize, Refusal>, room: &mut [u8]) -> (u64, u64, u64) {
-    match outcome {
-        Ok(length) => {
-            room[length..].fill(0);
-            (number::DONE, 0, length as u64)
-        }
-        Err((number, place)) => {
-            room.fill(0);
-            (number, place, 0)
-        }
-    }
-}
-
-fn try_read(kind: u64, today: u64, container: &[u8], room: &mut [u8]) -> Result<usize, Refusal> {
+/// Gives the verdict on a container and, where that is 0 and the room suffices, writes the container's value sheet into the
+/// room. Zeros are behind the sheet, or in the whole room where none is written.
+pub fn check(kind: u64, today: u64, container: &[u8], room: &mut [u8]) -> Checked {
     let mut spans = Spans::none();
     let mut values = 0;
-    let kind = checked(kind, today, container, |row, start, end| {
+    let outcome = checked(kind, today, container, |row, start, end| {
         spans.set(row, start, end);
         values += end - start;
-    })?;
-    let needed = 2 * kind.rows.len() + values;
-    if room.len() < needed {
-        return Err((number::ROOM, 0));
-    }
+    });
+    let ((number, place), short, length) = match outcome {
+        Err(refusal) => (refusal, number::DONE, 0),
+        Ok(kind) if room.len() < 2 * kind.rows.len() + values => ((number::DONE, 0), number::ROOM, 0),
+        Ok(kind) => ((number::DONE, 0), number::DONE, put_sheet(kind, &spans, container, room)),
+    };
+    room[length..].fill(0);
+    Checked { number, place, room: short, length: length as u64 }
+}
+
+/// Writes the sections of a conforming container's sheet into a room that suffices, and gives the length of them all.
+fn put_sheet(kind: &Kind, spans: &Spans, container: &[u8], room: &mut [u8]) -> usize {
     let mut at = 0;
     for row in 0..kind.rows.len() {
         match spans.value(row, container) {
@@ -348,13 +341,18 @@ fn try_read(kind: u64, today: u64, container: &[u8], room: &mut [u8]) -> Result<
             }
         }
     }
-    Ok(at)
+    at
 }
 
-/// Writes the container that a value sheet describes: number, place, length of the container.
+/// Writes the container that a value sheet describes: number, place, length of the container. Zeros are behind it, or in the
+/// whole room after a refusal.
 pub fn write(kind: u64, today: u64, sheet: &[u8], room: &mut [u8]) -> (u64, u64, u64) {
-    let outcome = try_write(kind, today, sheet, room);
-    settled(outcome, room)
+    let ((number, place), length) = match try_write(kind, today, sheet, room) {
+        Ok(length) => ((number::DONE, 0), length),
+        Err(refusal) => (refusal, 0),
+    };
+    room[length..].fill(0);
+    (number, place, length as u64)
 }
 
 fn try_write(kind: u64, today: u64, sheet: &[u8], room: &mut [u8]) -> Result<usize, Refusal> {

@@ -4,7 +4,7 @@ use crate::batch::{Call, Record, BYTES_MAX, ROOM_MAX};
 use crate::card::{self, all_kinds, Rule, LAST_KIND};
 use crate::trees;
 use crate::values::{self, fascn_encode, fascn_pack, fascn_values, is_date};
-use crate::{CONTAINER_MAX, REPORT_MAX};
+use crate::{CONTAINER_MAX, REPORT_MAX, SHEET_ROOM};
 
 /// splitmix64.
 pub struct Rng(u64);
@@ -1295,6 +1295,17 @@ fn any_room(rng: &mut Rng, needed: usize) -> usize {
     room.min(ROOM_MAX)
 }
 
+/// A room for the sheet of a container: often none at all, else at an edge, of the sheet that is needed or of all sheets.
+fn sheet_room(rng: &mut Rng, needed: usize, container: usize) -> usize {
+    match rng.below(200) {
+        0..=39 => 0,
+        40..=43 => 1,
+        44..=51 => container + 5 + rng.size(0, 2),
+        52 => rng.pick(&[SHEET_ROOM - 1, SHEET_ROOM, SHEET_ROOM, SHEET_ROOM + 1]),
+        _ => any_room(rng, needed),
+    }
+}
+
 fn report_room(rng: &mut Rng) -> usize {
     match rng.below(20) {
         0..=8 => REPORT_MAX,
@@ -1429,13 +1440,12 @@ fn container_record(rng: &mut Rng) -> Record {
     record
 }
 
-/// Makes a record with a container a call of check, read, view or report.
+/// Makes a record with a container a call of check, view or report.
 fn aim(rng: &mut Rng, record: &mut Record, card: &Card) {
     match rng.below(16) {
-        0..=7 => record.call = Call::Check,
-        8..=10 => {
-            record.call = Call::Read;
-            record.room = any_room(rng, card.sheet().len());
+        0..=10 => {
+            record.call = Call::Check;
+            record.room = sheet_room(rng, card.sheet().len(), record.bytes.len());
             record.fill = any_fill(rng);
         }
         11..=13 => {
@@ -1479,62 +1489,47 @@ fn big_record(rng: &mut Rng) -> Record {
         8 => rng.size(20_000, CONTAINER_MAX),
         _ => rng.size(CONTAINER_MAX, 65_000),
     };
-    let mut card = conforming_of_size(rng, kind, total);
+    let card = conforming_of_size(rng, kind, total);
     if rng.one_in(3) {
-        let call = Call::Write;
-        if rng.one_in(12) {
-            // The longest section that a sheet can hold.
-            let row = endless_row(kind).expect("it has such a row");
-            card.rows[row] = match card.table()[row].rule {
-                Rule::Certificate => trees::certificate_of(rng, 65_534),
-                _ => Some(rng.bytes(65_534)),
-            };
-        }
-        let room = if total > CONTAINER_MAX {
-            rng.pick(&[0, 0, 100, total])
-        } else {
-            rng.pick(&[0, total - 1, total, total + 1])
-        };
-        let mut bytes = card.sheet();
-        if rng.one_in(12) {
-            let at = rng.size(0, 200);
-            bytes[at] ^= 1 << rng.below(8);
-        }
-        bytes.truncate(BYTES_MAX);
-        return Record { call, kind, today: card.today, tag: 0, room: room.min(ROOM_MAX), fill: any_fill(rng), bytes };
+        return big_write_record(rng, card, total);
     }
     let mut bytes = card.container();
     if rng.one_in(3) {
         match rng.below(3) {
-            0 => {
-                let at = rng.size(0, 200);
-                bytes[at] ^= 1 << rng.below(8);
-            }
+            0 => damage_front(rng, &mut bytes),
             1 => bytes[0] ^= 1,
             _ => bytes.push(0),
         }
     }
     let mut record = Record { call: Call::Check, kind, today: card.today, tag: 0, room: 0, fill: 0, bytes };
-    let needed = card.sheet().len();
-    match rng.below(12) {
-        0..=5 => (),
-        6 | 7 => {
-            record.call = Call::Read;
-            record.room =
-                if total > CONTAINER_MAX { rng.pick(&[0, 64]) } else { rng.pick(&[0, needed - 1, needed, needed + 1]) };
-            record.fill = any_fill(rng);
-        }
-        8 | 9 => {
-            record.call = Call::View;
-            record.tag = view_tag(rng, kind);
-        }
-        _ => {
-            record.call = Call::Report;
-            record.room = report_room(rng);
-            record.fill = any_fill(rng);
-        }
-    }
+    aim(rng, &mut record, &card);
     record
+}
+
+/// The sheet of a card whose container has `total` bytes, to be written.
+fn big_write_record(rng: &mut Rng, mut card: Card, total: usize) -> Record {
+    if rng.one_in(12) {
+        // The longest section that a sheet can hold.
+        let row = endless_row(card.kind).expect("it has such a row");
+        card.rows[row] = match card.table()[row].rule {
+            Rule::Certificate => trees::certificate_of(rng, 65_534),
+            _ => Some(rng.bytes(65_534)),
+        };
+    }
+    let rooms = if total > CONTAINER_MAX { [0, 0, 100, total] } else { [0, total - 1, total, total + 1] };
+    let room = rng.pick(&rooms).min(ROOM_MAX);
+    let mut bytes = card.sheet();
+    if rng.one_in(12) {
+        damage_front(rng, &mut bytes);
+    }
+    bytes.truncate(BYTES_MAX);
+    Record { call: Call::Write, kind: card.kind, today: card.today, tag: 0, room, fill: any_fill(rng), bytes }
+}
+
+/// Changes a bit of the first 201 bytes.
+fn damage_front(rng: &mut Rng, bytes: &mut [u8]) {
+    let at = rng.size(0, 200);
+    bytes[at] ^= 1 << rng.below(8);
 }
 
 fn fascn_decode_record(rng: &mut Rng) -> Record {
@@ -1671,12 +1666,33 @@ fn fixed_certificates() -> Vec<Record> {
             add(trees::certificate_of_pairs(total - 13).expect("a certificate of so many bytes"), None);
         }
     }
-    let mut out: Vec<Record> = cards.iter().map(|card| plain(Call::Check, card.kind, card.container())).collect();
-    out.extend(cards.iter().map(|card| Record {
-        room: 100,
+    let check = |card: &Card| Record {
+        room: card.sheet().len(),
         fill: 0xA5,
-        ..plain(Call::Write, card.kind, card.sheet())
-    }));
+        ..plain(Call::Check, card.kind, card.container())
+    };
+    let write = |card: &Card| Record { room: 100, fill: 0xA5, ..plain(Call::Write, card.kind, card.sheet()) };
+    cards.iter().map(check).chain(cards.iter().map(write)).collect()
+}
+
+/// The length of the sheet of a container that conforms on the example's day.
+fn sheet_length(kind: u64, container: &[u8]) -> usize {
+    card::check(kind, EXAMPLE_DAY, container, &mut [0; SHEET_ROOM]).length as usize
+}
+
+/// Checks with rooms at their edges, of a conforming container and of one whose last byte breaks a rule.
+fn fixed_rooms(kind: u64) -> Vec<Record> {
+    let container = small(kind);
+    let mut broken = container.clone();
+    *broken.last_mut().expect("no container is empty") ^= 1;
+    let sheet = sheet_length(kind, &container);
+    let enough = container.len() + 6;
+    let mut out = Vec::new();
+    for room in [0, 1, 2, sheet - 1, sheet, sheet + 1, enough, enough + 1, SHEET_ROOM] {
+        for bytes in [&container, &broken] {
+            out.push(Record { room, fill: 0xA5, ..plain(Call::Check, kind, bytes.clone()) });
+        }
+    }
     out
 }
 
@@ -1711,6 +1727,7 @@ fn fixed_records() -> Vec<Record> {
         ] {
             out.push(plain(Call::Check, kind, bytes));
         }
+        out.extend(fixed_rooms(kind));
         for room in [0, 511, 512, 513, 600] {
             out.push(Record { room, fill: 0xA5, ..plain(Call::Report, kind, container.clone()) });
             out.push(Record { room, fill: 0xA5, ..plain(Call::Report, kind, vec![0x53, 0x00]) });
@@ -1748,11 +1765,13 @@ fn fixed_records() -> Vec<Record> {
     out
 }
 
-/// Every container that differs from a small conforming one in one byte, and itself: checks.
+/// Every container that differs from a small conforming one in one byte, and itself: checks, with a room that is as long as the
+/// sheet of that one.
 pub fn sweep<F: FnMut(&Record)>(mut take: F) {
     for kind in all_kinds() {
         let container = small(kind);
-        let mut record = plain(Call::Check, kind, container.clone());
+        let room = sheet_length(kind, &container);
+        let mut record = Record { room, fill: 0xA5, ..plain(Call::Check, kind, container.clone()) };
         for (at, &original) in container.iter().enumerate() {
             for value in 0..=255 {
                 record.bytes[at] = value;

@@ -1,4 +1,4 @@
-//! The independent second program: it checks, reads, writes, views and reports PIV data containers.
+//! The independent second program: it checks PIV data containers, gives their value sheets, and writes, views and reports them.
 //!
 //! It is written from the scope page (01), the change requests (02) and the list of decided points
 //! alone, and serves as the partner that the proved program is compared with, and as the speed baseline.
@@ -13,7 +13,7 @@ pub mod samples;
 pub mod trees;
 pub mod values;
 
-pub use card::{check, read, view, write};
+pub use card::{check, view, write, Checked};
 pub use report::{desk, report};
 pub use values::{fascn_decode, fascn_encode};
 
@@ -51,5 +51,8 @@ pub mod number {
 
 /// A container has at most this many bytes.
 pub const CONTAINER_MAX: usize = 32_768;
+/// A room of this many bytes holds the sheet of any container. A sheet has at most two bytes more for each absent element, of which
+/// no kind has over four, and two bytes at least of a container lie outside of its elements.
+pub const SHEET_ROOM: usize = CONTAINER_MAX + 6;
 /// A report has at most this many bytes, and asks for a room of at least as many.
 pub const REPORT_MAX: usize = 512;

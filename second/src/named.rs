@@ -6,7 +6,7 @@ use crate::card::Refusal;
 use crate::generate::{Card, EXAMPLE_DAY, EXAMPLE_DISCOVERY, EXAMPLE_FASCN};
 use crate::samples::{card, ccc, certificate, chuid, discovery, face, fingers, printed, security, wrong_fascn};
 use crate::samples::{COMPRESSED, P256, RSA, UUID};
-use crate::CONTAINER_MAX;
+use crate::{CONTAINER_MAX, SHEET_ROOM};
 
 /// A call and its answer.
 pub type Case = (Record, Answer);
@@ -23,6 +23,7 @@ pub fn all() -> Vec<Group> {
         conforming(),
         broken(),
         there_and_back(),
+        rooms(),
         refused_sheets(),
         views(),
         reports(),
@@ -56,12 +57,23 @@ fn into_room(record: Record, room: usize, outcome: Result<&[u8], Refusal>) -> Ca
     (Record { room, fill: 0xFF, ..record }, Answer { length: output.len() as u64, room: left, ..refused(verdict) })
 }
 
+/// A check with an empty room, for the verdict alone. Beside a 0 there is the 3.
 fn check(kind: u64, container: &[u8], verdict: Refusal) -> Case {
-    (given(Call::Check, kind, container), refused(verdict))
+    match verdict {
+        (0, 0) => check_short(kind, container, 0),
+        broken => check_into(kind, container, 0, Err(broken)),
+    }
 }
 
-fn read(kind: u64, container: &[u8], room: usize, outcome: Result<&[u8], Refusal>) -> Case {
-    into_room(given(Call::Read, kind, container), room, outcome)
+/// A check with a room: the sheet that is written there, or the first broken rule.
+fn check_into(kind: u64, container: &[u8], room: usize, outcome: Result<&[u8], Refusal>) -> Case {
+    into_room(given(Call::Check, kind, container), room, outcome)
+}
+
+/// A check of a conforming container with a room that is too short for the sheet, of which nothing is written.
+fn check_short(kind: u64, container: &[u8], room: usize) -> Case {
+    let (record, answer) = check_into(kind, container, room, Ok(&[]));
+    (record, Answer { short: 3, ..answer })
 }
 
 fn write(kind: u64, sheet: &[u8], room: usize, outcome: Result<&[u8], Refusal>) -> Case {
@@ -477,12 +489,18 @@ fn limits() -> Vec<Group> {
     ]
 }
 
+/// Checks of a conforming card, without a room and with one that is as long as its sheet.
+fn conforms(card: Card) -> [Case; 2] {
+    let container = card.container();
+    let sheet = card.sheet();
+    [check(card.kind, &container, (0, 0)), check_into(card.kind, &container, sheet.len(), Ok(&sheet))]
+}
+
 fn conforming() -> Vec<Group> {
-    let conforms = |card: Card| check(card.kind, &card.container(), (0, 0));
     vec![
         (
             "one of every kind: CCC, CHUID, DISCOVERY, PRINTED, SECURITY, FINGERS, FACE, and certificates",
-            vec![
+            [
                 conforms(ccc(0x10)),
                 conforms(case_r()),
                 conforms(discovery([0x40, 0])),
@@ -494,12 +512,14 @@ fn conforming() -> Vec<Group> {
                 conforms(certificate(9, P256, 0, None)),
                 conforms(certificate(10, P256, 0, Some(&[1]))),
                 conforms(certificate(11, &LEAST, 0, None)),
-            ],
+            ]
+            .concat(),
         ),
-        ("a CHUID with each optional element", vec![conforms(whole_chuid(&[]))]),
+        ("a CHUID with each optional element", conforms(whole_chuid(&[])).to_vec()),
         (
             "an expiry on the first and on the last day of its window",
-            vec![conforms(chuid(&EXAMPLE_FASCN, b"20260301", &[])), conforms(chuid(&EXAMPLE_FASCN, b"20320301", &[]))],
+            [conforms(chuid(&EXAMPLE_FASCN, b"20260301", &[])), conforms(chuid(&EXAMPLE_FASCN, b"20320301", &[]))]
+                .concat(),
         ),
     ]
 }
@@ -562,33 +582,164 @@ fn broken() -> Vec<Group> {
 fn there_and_back() -> Vec<Group> {
     let group = |name, card: Card| {
         let (container, sheet) = (card.container(), card.sheet());
-        let read = |room, outcome| read(card.kind, &container, room, outcome);
+        let short = |room| check_short(card.kind, &container, room);
+        let check = |room| check_into(card.kind, &container, room, Ok(&sheet));
         let write = |room, outcome| write(card.kind, &sheet, room, outcome);
         let cases = vec![
-            read(sheet.len() - 1, Err((3, 0))),
-            read(sheet.len(), Ok(&sheet)),
-            read(sheet.len() + 5, Ok(&sheet)),
+            short(1),
+            short(sheet.len() - 1),
+            check(sheet.len()),
+            check(sheet.len() + 1),
+            check(sheet.len() + 5),
+            check(container.len() + 6),
+            check(SHEET_ROOM),
             write(container.len() - 1, Err((3, 0))),
             write(container.len(), Ok(&container)),
             write(container.len() + 5, Ok(&container)),
         ];
         (name, cases)
     };
-    // rooms one byte short, exact and larger
+    // rooms one byte short, exact and larger, and such as hold every sheet
     vec![
-        group("CCC read and written", ccc(0x10)),
-        group("CHUID read and written", whole_chuid(&[0x30, 3, 1, 1, 0xFF])),
-        group("DISCOVERY read and written", discovery([0x60, 0x10])),
-        group("PRINTED read and written", printed(b"AGENT", EXPIRES)),
-        group("SECURITY read and written", security(&[1, 2], &[3; 140])),
-        group("FINGERS read and written", fingers(100, b'0', [1, 2])),
-        group("FACE read and written", face(100, 3, 4)),
-        group("PIVAUTH read and written", certificate(8, RSA, 0, None)),
-        group("DIGSIG read and written", certificate(9, P256, 0, Some(&[]))),
-        group("KEYMGMT read and written", certificate(10, &LEVEL_8, 0, Some(&[0x41; 38]))),
-        group("CARDAUTH read and written", certificate(11, &LEAST, 0, None)),
+        group("CCC checked and written", ccc(0x10)),
+        group("CHUID checked and written", whole_chuid(&[0x30, 3, 1, 1, 0xFF])),
+        group("DISCOVERY checked and written", discovery([0x60, 0x10])),
+        group("PRINTED checked and written", printed(b"AGENT", EXPIRES)),
+        group("SECURITY checked and written", security(&[1, 2], &[3; 140])),
+        group("FINGERS checked and written", fingers(100, b'0', [1, 2])),
+        group("FACE checked and written", face(100, 3, 4)),
+        group("PIVAUTH checked and written", certificate(8, RSA, 0, None)),
+        group("DIGSIG checked and written", certificate(9, P256, 0, Some(&[]))),
+        group("KEYMGMT checked and written", certificate(10, &LEVEL_8, 0, Some(&[0x41; 38]))),
+        group("CARDAUTH checked and written", certificate(11, &LEAST, 0, None)),
     ]
 }
+
+// ---------------------------------------------------------------------------------------------
+// The room of a check
+
+fn rooms() -> Vec<Group> {
+    vec![worked_cases(), every_room(), largest_into_rooms(), broken_into_rooms(), refused_into_rooms(), small_rooms()]
+}
+
+const GUID: [u8; 16] = [0x00, 0x11, 0x22, 0x33, 0x44, 0x55, 0x46, 0x77, 0x88, 0x99, 0xAA, 0xBB, 0xCC, 0xDD, 0xEE, 0xFF];
+
+/// The first three elements of a CHUID, 55 bytes.
+fn head(uuid: &[u8; 16]) -> Vec<u8> {
+    [&[0x30, 25], &EXAMPLE_FASCN[..], &[0x34, 16], uuid, &[0x35, 8], EXPIRES].concat()
+}
+
+/// The worked cases of request 2026-13, in their order; what the desk prints there is a report here.
+fn worked_cases() -> Group {
+    let container = |uuid| [&[0x53, 59], &head(uuid)[..], &[0x3E, 0, 0xFE, 0]].concat();
+    let (good, bad) = (container(&GUID), container(&[0; 16]));
+    let sheet =
+        [&[0, 0, 0, 26], &EXAMPLE_FASCN[..], &[0, 0, 0, 0, 0, 17], &GUID, &[0, 9], EXPIRES, &[0, 0, 0, 1, 0, 1]]
+            .concat();
+    let long_form = [&[0x53, 0x82, 1, 5], &head(&GUID)[..], &[0x3E, 0x82, 0, 200], &[0xAA; 200], &[0xFE, 0]].concat();
+    let told = "CARD 4\nkind CHUID\nbytes 61\ntoday 20260301\nverdict 18 29\nELEMENTS 0\nOPEN 0\n";
+    (
+        "the worked cases of 2026-13",
+        vec![
+            check_into(2, &good, 67, Ok(&sheet)),
+            check_into(2, &good, 70, Ok(&sheet)),
+            check_short(2, &good, 66),
+            check_short(2, &good, 0),
+            check_into(2, &bad, 0, Err((18, 29))),
+            check_into(2, &bad, 99, Err((18, 29))),
+            check_into(0, &good, 0, Err((1, 0))),
+            on(20260229, check_into(2, &good, 99, Err((2, 0)))),
+            check_into(2, &[0; 32_769], 0, Err((4, 0))),
+            check_into(2, &[], 0, Err((10, 0))),
+            check_into(3, &EXAMPLE_DISCOVERY, 17, Ok(&DISCOVERY_SHEET)),
+            check_into(2, &long_form, 300, Err((11, 59))),
+            view(2, &good, 0x30, Ok((4, 25))),
+            report(2, &bad, 512, Ok(told)),
+        ],
+    )
+}
+
+/// The sheet of P13.
+const DISCOVERY_SHEET: [u8; 17] = [0, 12, 0xA0, 0, 0, 3, 8, 0, 0, 0x10, 0, 1, 0, 0, 3, 0x40, 0];
+
+fn every_room() -> Group {
+    let short = (0..17).map(|room| check_short(3, &EXAMPLE_DISCOVERY, room));
+    let enough = (17..20).map(|room| check_into(3, &EXAMPLE_DISCOVERY, room, Ok(&DISCOVERY_SHEET)));
+    ("DISCOVERY with each room from none to three bytes more than its sheet", short.chain(enough).collect())
+}
+
+fn largest_into_rooms() -> Group {
+    let card = large_chuid(CONTAINER_MAX);
+    let (container, sheet) = (card.container(), card.sheet());
+    (
+        "a CHUID of 32,768 bytes, whose sheet has 32,770, with rooms of 32,769, 32,770 and 32,774 bytes",
+        vec![
+            check_short(2, &container, 32_769),
+            check_into(2, &container, 32_770, Ok(&sheet)),
+            check_into(2, &container, SHEET_ROOM, Ok(&sheet)),
+        ],
+    )
+}
+
+fn broken_into_rooms() -> Group {
+    let breaks = |card: Card, number, place| {
+        let container = card.container();
+        [0, 1, SHEET_ROOM].map(|room| check_into(card.kind, &container, room, Err((number, place))))
+    };
+    (
+        "a broken one of every kind, each with rooms of 0, 1 and 32,774 bytes",
+        [
+            breaks(ccc(0x11), 20, 36),
+            breaks(chuid(&wrong_fascn(), EXPIRES, &[]), 17, 2),
+            breaks(discovery([0x60, 0]), 20, 15),
+            breaks(printed(b"AGENT", b"20300230"), 19, 20),
+            breaks(card(5, &[Some(&[]), Some(&[]), None]), 15, 6),
+            breaks(fingers(100, 0, [3, 5]), 22, 3),
+            breaks(face(0xFF, 300, 40), 21, 4),
+            breaks(certificate(8, COMPRESSED, 1, None), 24, 4),
+            breaks(certificate(9, &LEVEL_9, 0, None), 25, 2),
+            breaks(certificate(10, &LEAST, 1, None), 20, 12),
+            breaks(certificate(11, &LEAST, 0, Some(&[0x41; 39])), 16, 15),
+        ]
+        .concat(),
+    )
+}
+
+fn refused_into_rooms() -> Group {
+    let too_large = large_chuid(CONTAINER_MAX + 1).container();
+    let refuses = |kind, today, container: &[u8], number| {
+        [0, 1, 60, SHEET_ROOM].map(|room| on(today, check_into(kind, container, room, Err((number, 0)))))
+    };
+    (
+        "kind 0, no date, 32,769 bytes, each alone and with those that come later; an empty container; bytes after the outer end: \
+         each with rooms of 0, 1, 60 and 32,774 bytes",
+        [
+            refuses(0, EXAMPLE_DAY, &SMALL, 1),
+            refuses(12, 20260229, &too_large, 1),
+            refuses(5, 20260229, &SMALL, 2),
+            refuses(2, 20260229, &too_large, 2),
+            refuses(2, EXAMPLE_DAY, &too_large, 4),
+            refuses(2, EXAMPLE_DAY, &[], 10),
+            refuses(5, EXAMPLE_DAY, &[&SMALL[..], &[0]].concat(), 12),
+        ]
+        .concat(),
+    )
+}
+
+fn small_rooms() -> Group {
+    (
+        "a broken container with a room of 80 bytes; an empty one, kind 0 and no date with one of 4",
+        vec![
+            check_into(2, &chuid(&wrong_fascn(), EXPIRES, &[]).container(), 80, Err((17, 2))),
+            check_into(2, &[], 4, Err((10, 0))),
+            check_into(0, &SMALL, 4, Err((1, 0))),
+            on(0, check_into(5, &SMALL, 4, Err((2, 0)))),
+        ],
+    )
+}
+
+// ---------------------------------------------------------------------------------------------
+// Sheets that are refused
 
 fn refuses_certificate(value: &[u8], information: u8, extra: Option<&[u8]>, refusal: Refusal) -> Case {
     write(8, &certificate(8, value, information, extra).sheet(), 70, Err(refusal))
@@ -606,15 +757,6 @@ fn refused_sheets() -> Vec<Group> {
         card(2, &values).sheet()
     };
     vec![
-        (
-            "read of a broken container, of an empty one, with kind 0, with no date",
-            vec![
-                read(2, &chuid(&wrong_fascn(), EXPIRES, &[]).container(), 80, Err((17, 2))),
-                read(2, &[], 4, Err((10, 0))),
-                read(0, &SMALL, 4, Err((1, 0))),
-                on(0, read(5, &SMALL, 4, Err((2, 0)))),
-            ],
-        ),
         (
             "CHUID sheets: a byte left over, cut short, a count that runs past the end, empty",
             vec![

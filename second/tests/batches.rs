@@ -2,6 +2,8 @@
 
 use second::batch::{Call, Record, Tally, BYTES_MAX, ROOM_MAX};
 use second::generate::Inputs;
+use second::{check, number, SHEET_ROOM};
+use std::collections::BTreeSet;
 
 fn batch(seed: u64, count: usize) -> Vec<Record> {
     let mut inputs = Inputs::new(seed);
@@ -20,10 +22,7 @@ fn records_keep_to_the_limits() {
     for record in batch(9, 50_000) {
         assert!(record.room <= ROOM_MAX && record.bytes.len() <= BYTES_MAX);
         assert!(record.tag == 0 || record.call == Call::View);
-        assert!(
-            (record.room == 0 && record.fill == 0)
-                || !matches!(record.call, Call::Check | Call::View | Call::FascnDecode)
-        );
+        assert!((record.room == 0 && record.fill == 0) || !matches!(record.call, Call::View | Call::FascnDecode));
         if record.call == Call::FascnEncode {
             assert_eq!(record.bytes.len(), 72);
         }
@@ -34,7 +33,31 @@ fn records_keep_to_the_limits() {
 fn every_number_occurs() {
     let mut tally = Tally::default();
     for record in batch(4, 20_000) {
-        tally.count(record.call, record.answer().number);
+        tally.count(record.call, &record.answer());
     }
     assert_eq!(tally.never(), []);
+}
+
+/// Checks are made with rooms of every sort, not only at the front of a batch: whatever the verdict is, with none, with few bytes
+/// and with enough for any sheet; and where it is 0, at the edges of the sheet and of all sheets.
+#[test]
+fn rooms_of_checks() {
+    let mut inputs = Inputs::made(6);
+    let (mut sorts, mut edges) = (BTreeSet::new(), BTreeSet::new());
+    for record in (0..100_000).map(|_| inputs.record()).filter(|record| record.call == Call::Check) {
+        let (room, enough) = (record.room, record.bytes.len() + 6);
+        let answer = check(record.kind, record.today, &record.bytes, &mut vec![0; enough]);
+        sorts.insert((answer.number, usize::from(room > 0) + usize::from(room >= enough)));
+        if answer.number == 0 {
+            let sheet = answer.length as usize;
+            let here = [0, 1, sheet - 1, sheet, sheet + 1, enough, enough + 1, SHEET_ROOM].map(|edge| edge == room);
+            edges.extend((0..here.len()).filter(|&edge| here[edge]));
+        }
+    }
+    for number in [0, 1, 2, 4].into_iter().chain(10..=number::LAST) {
+        for sort in 0..3 {
+            assert!(sorts.contains(&(number, sort)), "{} {}", number, sort);
+        }
+    }
+    assert!(edges.into_iter().eq(0..8));
 }

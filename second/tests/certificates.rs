@@ -1,7 +1,6 @@
 //! Certificates, made and damaged.
 
 use second::batch::Call;
-use second::check;
 use second::der::{self, Fault};
 use second::generate::{certificate_kinds, Inputs, Rng, EXAMPLE_DAY};
 use second::samples::{certificate, P256, RSA};
@@ -9,8 +8,11 @@ use second::trees::{self, Tree};
 use second::values::CERTIFICATE_LEVELS;
 use std::collections::BTreeSet;
 
+mod common;
+use common::verdict;
+
 fn number_of(value: &[u8]) -> u64 {
-    check(8, EXAMPLE_DAY, &certificate(8, value, 0, None).container()).0
+    verdict(8, EXAMPLE_DAY, &certificate(8, value, 0, None).container()).0
 }
 
 /// The tag, the bytes before the content and the length of the item that stands here, in the fewest bytes.
@@ -143,16 +145,18 @@ fn calls_on_certificates_are_made() {
     for _ in 0..60_000 {
         let record = inputs.record();
         if certificate_kinds().contains(&record.kind) && !matches!(record.call, Call::FascnDecode | Call::FascnEncode) {
-            seen.insert((record.kind, record.call, record.answer().number));
+            let answer = record.answer();
+            seen.insert((record.kind, record.call, answer.number, answer.short));
         }
     }
     assert_eq!(certificate_kinds(), [8, 9, 10, 11]);
     for kind in certificate_kinds() {
-        for call in [Call::Check, Call::Read, Call::Write, Call::View] {
+        for call in [Call::Check, Call::Write, Call::View] {
             for number in [0, 15, 16, 20, 24, 25] {
-                assert!(seen.contains(&(kind, call, number)), "{} {:?} {}", kind, call, number);
+                assert!(seen.contains(&(kind, call, number, 0)), "{} {:?} {}", kind, call, number);
             }
         }
-        assert!(seen.contains(&(kind, Call::Report, 0)));
+        assert!(seen.contains(&(kind, Call::Check, 0, 3)));
+        assert!(seen.contains(&(kind, Call::Report, 0, 0)));
     }
 }

@@ -5,7 +5,10 @@ use second::generate::{example_chuid, small, EXAMPLE_DAY, EXAMPLE_DISCOVERY, EXA
 use second::named::{self, CASE_R};
 use second::report::DESK_INPUT_MAX;
 use second::values::{is_expiry, text_date};
-use second::{check, desk, fascn_decode, fascn_encode, read, report, view, write};
+use second::{check, desk, fascn_decode, fascn_encode, report, view, write, Checked};
+
+mod common;
+use common::verdict;
 
 #[test]
 fn named_calls() {
@@ -89,32 +92,32 @@ fn p9_to_p12_dates() {
     assert_eq!(text_date(b"21000229"), None);
     assert!(is_expiry(b"20320301", EXAMPLE_DAY));
     assert!(!is_expiry(b"20320302", EXAMPLE_DAY));
-    assert_eq!(check(2, EXAMPLE_DAY, &example_chuid(b"20320301")), (0, 0));
-    assert_eq!(check(2, EXAMPLE_DAY, &example_chuid(b"20320302")), (19, 47));
-    assert_eq!(check(2, EXAMPLE_DAY, &example_chuid(b"20260301")), (0, 0));
-    assert_eq!(check(2, EXAMPLE_DAY, &example_chuid(b"20260228")), (19, 47));
+    assert_eq!(verdict(2, EXAMPLE_DAY, &example_chuid(b"20320301")), (0, 0));
+    assert_eq!(verdict(2, EXAMPLE_DAY, &example_chuid(b"20320302")), (19, 47));
+    assert_eq!(verdict(2, EXAMPLE_DAY, &example_chuid(b"20260301")), (0, 0));
+    assert_eq!(verdict(2, EXAMPLE_DAY, &example_chuid(b"20260228")), (19, 47));
     for (today, number) in
         [(0, 2), (10_101, 0), (99991231, 0), (99999999, 2), (20230229, 2), (10_100, 2), (100_000_101, 2), (u64::MAX, 2)]
     {
-        assert_eq!(check(3, today, &EXAMPLE_DISCOVERY), (number, 0));
+        assert_eq!(verdict(3, today, &EXAMPLE_DISCOVERY), (number, 0));
     }
 }
 
 #[test]
 fn p13_p14_discovery() {
-    assert_eq!(check(3, EXAMPLE_DAY, &EXAMPLE_DISCOVERY), (0, 0));
+    assert_eq!(verdict(3, EXAMPLE_DAY, &EXAMPLE_DISCOVERY), (0, 0));
     let mut wrong = EXAMPLE_DISCOVERY;
     wrong[18] = 0x60;
-    assert_eq!(check(3, EXAMPLE_DAY, &wrong), (20, 15));
+    assert_eq!(verdict(3, EXAMPLE_DAY, &wrong), (20, 15));
     // 5F without 2F is 13 at its own offset, at the end too.
-    assert_eq!(check(3, EXAMPLE_DAY, &[0x7E, 0x01, 0x5F]), (13, 2));
+    assert_eq!(verdict(3, EXAMPLE_DAY, &[0x7E, 0x01, 0x5F]), (13, 2));
     let mut lone = EXAMPLE_DISCOVERY;
     lone[16] = 0x2E;
-    assert_eq!(check(3, EXAMPLE_DAY, &lone), (13, 15));
+    assert_eq!(verdict(3, EXAMPLE_DAY, &lone), (13, 15));
     // 5F2F first: 4F was passed over.
-    assert_eq!(check(3, EXAMPLE_DAY, &[0x7E, 0x05, 0x5F, 0x2F, 0x02, 0x40, 0x00]), (15, 2));
+    assert_eq!(verdict(3, EXAMPLE_DAY, &[0x7E, 0x05, 0x5F, 0x2F, 0x02, 0x40, 0x00]), (15, 2));
     // Only the first tag of another kind is looked at.
-    assert_eq!(check(2, EXAMPLE_DAY, &[0x53, 0x05, 0x5F, 0x2F, 0x02, 0x40, 0x00]), (13, 2));
+    assert_eq!(verdict(2, EXAMPLE_DAY, &[0x53, 0x05, 0x5F, 0x2F, 0x02, 0x40, 0x00]), (13, 2));
 }
 
 #[test]
@@ -222,7 +225,7 @@ fn quality_bytes() {
     for (kind, header) in [(6, 6), (7, 4)] {
         let good = small(kind);
         assert_eq!(good[header..header + 2], [0x03, 0x0D]);
-        assert_eq!(check(kind, EXAMPLE_DAY, &good), (0, 0));
+        assert_eq!(verdict(kind, EXAMPLE_DAY, &good), (0, 0));
         for quality in 0..=255u8 {
             let mut container = good.clone();
             container[header + 40] = quality;
@@ -232,7 +235,7 @@ fn quality_bytes() {
                 _ => false,
             };
             let place = if kind == 6 { 3 } else { 2 };
-            assert_eq!(check(kind, EXAMPLE_DAY, &container), if kept { (0, 0) } else { (21, place) });
+            assert_eq!(verdict(kind, EXAMPLE_DAY, &container), if kept { (0, 0) } else { (21, place) });
         }
     }
 }
@@ -241,47 +244,47 @@ fn quality_bytes() {
 fn empty_and_outer() {
     for kind in all_kinds() {
         let outer = if kind == 3 { 0x7E } else { 0x53 };
-        assert_eq!(check(kind, EXAMPLE_DAY, &[]), (10, 0));
-        assert_eq!(check(kind, EXAMPLE_DAY, &[outer ^ 1, 0]), (10, 0));
-        assert_eq!(check(kind, EXAMPLE_DAY, &[outer]), (11, 0));
-        assert_eq!(check(kind, EXAMPLE_DAY, &[outer, 0x80]), (11, 0));
-        assert_eq!(check(kind, EXAMPLE_DAY, &[outer, 0x81, 0x01]), (11, 0));
-        assert_eq!(check(kind, EXAMPLE_DAY, &[outer, 0x82, 0x01]), (11, 0));
-        assert_eq!(check(kind, EXAMPLE_DAY, &[outer, 0x01]), (12, 0));
-        assert_eq!(check(kind, EXAMPLE_DAY, &[outer, 0x00, 0x00]), (12, 0));
-        assert_eq!(check(kind, EXAMPLE_DAY, &[outer, 0x00]), (15, 2));
+        assert_eq!(verdict(kind, EXAMPLE_DAY, &[]), (10, 0));
+        assert_eq!(verdict(kind, EXAMPLE_DAY, &[outer ^ 1, 0]), (10, 0));
+        assert_eq!(verdict(kind, EXAMPLE_DAY, &[outer]), (11, 0));
+        assert_eq!(verdict(kind, EXAMPLE_DAY, &[outer, 0x80]), (11, 0));
+        assert_eq!(verdict(kind, EXAMPLE_DAY, &[outer, 0x81, 0x01]), (11, 0));
+        assert_eq!(verdict(kind, EXAMPLE_DAY, &[outer, 0x82, 0x01]), (11, 0));
+        assert_eq!(verdict(kind, EXAMPLE_DAY, &[outer, 0x01]), (12, 0));
+        assert_eq!(verdict(kind, EXAMPLE_DAY, &[outer, 0x00, 0x00]), (12, 0));
+        assert_eq!(verdict(kind, EXAMPLE_DAY, &[outer, 0x00]), (15, 2));
     }
     for kind in [0, LAST_KIND + 1, 256 + 2, u64::MAX] {
-        assert_eq!(check(kind, 0, &vec![0; 40_000]), (1, 0));
+        assert_eq!(verdict(kind, 0, &vec![0; 40_000]), (1, 0));
         assert_eq!(view(kind, 0, &[1, 2], 0x30).0, 1);
     }
-    assert_eq!(check(2, 0, &vec![0; 40_000]), (2, 0));
-    assert_eq!(check(2, EXAMPLE_DAY, &vec![0; 32_769]), (4, 0));
-    assert_eq!(check(2, EXAMPLE_DAY, &vec![0; 32_768]), (10, 0));
+    assert_eq!(verdict(2, 0, &vec![0; 40_000]), (2, 0));
+    assert_eq!(verdict(2, EXAMPLE_DAY, &vec![0; 32_769]), (4, 0));
+    assert_eq!(verdict(2, EXAMPLE_DAY, &vec![0; 32_768]), (10, 0));
 }
 
 #[test]
 fn element_orders() {
     let day = EXAMPLE_DAY;
     // SECURITY: BA, BB, FE.
-    assert_eq!(check(5, day, &[0x53, 6, 0xBA, 0, 0xBB, 0, 0xFE, 0]), (0, 0));
-    assert_eq!(check(5, day, &[0x53, 4, 0xBA, 0, 0xFE, 0]), (15, 4));
-    assert_eq!(check(5, day, &[0x53, 4, 0xBA, 0, 0xBB, 0]), (15, 6));
-    assert_eq!(check(5, day, &[0x53, 4, 0xBA, 0, 0xBA, 0]), (14, 4));
-    assert_eq!(check(5, day, &[0x53, 6, 0xBA, 0, 0xBB, 0, 0xBA, 0]), (14, 6));
+    assert_eq!(verdict(5, day, &[0x53, 6, 0xBA, 0, 0xBB, 0, 0xFE, 0]), (0, 0));
+    assert_eq!(verdict(5, day, &[0x53, 4, 0xBA, 0, 0xFE, 0]), (15, 4));
+    assert_eq!(verdict(5, day, &[0x53, 4, 0xBA, 0, 0xBB, 0]), (15, 6));
+    assert_eq!(verdict(5, day, &[0x53, 4, 0xBA, 0, 0xBA, 0]), (14, 4));
+    assert_eq!(verdict(5, day, &[0x53, 6, 0xBA, 0, 0xBB, 0, 0xBA, 0]), (14, 6));
     // 13 before 15, 15 before 11, 11 before 12, 12 before 16.
-    assert_eq!(check(5, day, &[0x53, 2, 0x30, 0]), (13, 2));
-    assert_eq!(check(5, day, &[0x53, 1, 0xBB]), (15, 2));
-    assert_eq!(check(5, day, &[0x53, 1, 0xBA]), (11, 2));
-    assert_eq!(check(5, day, &[0x53, 2, 0xBA, 0x81]), (11, 2));
-    assert_eq!(check(5, day, &[0x53, 3, 0xBA, 0x81, 31]), (11, 2));
-    assert_eq!(check(5, day, &[0x53, 2, 0xBA, 31]), (12, 2));
+    assert_eq!(verdict(5, day, &[0x53, 2, 0x30, 0]), (13, 2));
+    assert_eq!(verdict(5, day, &[0x53, 1, 0xBB]), (15, 2));
+    assert_eq!(verdict(5, day, &[0x53, 1, 0xBA]), (11, 2));
+    assert_eq!(verdict(5, day, &[0x53, 2, 0xBA, 0x81]), (11, 2));
+    assert_eq!(verdict(5, day, &[0x53, 3, 0xBA, 0x81, 31]), (11, 2));
+    assert_eq!(verdict(5, day, &[0x53, 2, 0xBA, 31]), (12, 2));
     let mut long = vec![0x53, 33, 0xBA, 31];
     long.extend([0; 31]);
-    assert_eq!(check(5, day, &long), (16, 2));
+    assert_eq!(verdict(5, day, &long), (16, 2));
     // After the last row everything known is 14.
-    assert_eq!(check(5, day, &[0x53, 8, 0xBA, 0, 0xBB, 0, 0xFE, 0, 0xFE, 0]), (14, 8));
-    assert_eq!(check(5, day, &[0x53, 8, 0xBA, 0, 0xBB, 0, 0xFE, 0, 0x00, 0]), (13, 8));
+    assert_eq!(verdict(5, day, &[0x53, 8, 0xBA, 0, 0xBB, 0, 0xFE, 0, 0xFE, 0]), (14, 8));
+    assert_eq!(verdict(5, day, &[0x53, 8, 0xBA, 0, 0xBB, 0, 0xFE, 0, 0x00, 0]), (13, 8));
 }
 
 #[test]
@@ -318,10 +321,10 @@ fn sheets() {
     assert_eq!(write(5, EXAMPLE_DAY, &sheet, &mut room), (3, 0, 0));
     assert_eq!(room, [0; 9]);
     let mut room = [0xAA; 9];
-    assert_eq!(read(5, EXAMPLE_DAY, &container, &mut room), (0, 0, 8));
+    assert_eq!(check(5, EXAMPLE_DAY, &container, &mut room), Checked { number: 0, place: 0, room: 0, length: 8 });
     assert_eq!(room, [0, 1, 0, 3, 7, 8, 0, 1, 0]);
     let mut room = [0xAA; 7];
-    assert_eq!(read(5, EXAMPLE_DAY, &container, &mut room), (3, 0, 0));
+    assert_eq!(check(5, EXAMPLE_DAY, &container, &mut room), Checked { number: 0, place: 0, room: 3, length: 0 });
     assert_eq!(room, [0; 7]);
     // Cut short, left over, a missing row, a length.
     for cut in 0..8 {

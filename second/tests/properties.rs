@@ -3,9 +3,31 @@
 use second::batch::Call;
 use second::card::{self, all_kinds};
 use second::generate::{conforming, conforming_of_size, endless_kinds, personal_twin, small, Inputs, Rng, EXAMPLE_DAY};
-use second::{check, read, report, view, write};
+use second::{check, report, view, write, Checked, SHEET_ROOM};
+
+mod common;
+use common::verdict;
 
 const ROUNDS: usize = 3_000;
+
+/// A check with a room of so many bytes that held something before: the answer, and what is in the room before its zeros.
+fn check_into(kind: u64, today: u64, container: &[u8], size: usize) -> (Checked, Vec<u8>) {
+    let mut room = vec![0xAA; size];
+    let answer = check(kind, today, container, &mut room);
+    let behind = room.split_off(answer.length as usize);
+    assert!(behind.iter().all(|&byte| byte == 0));
+    (answer, room)
+}
+
+/// What a check gives of a conforming container with this sheet, where the room suffices.
+fn sheet_told(sheet: &[u8]) -> (Checked, Vec<u8>) {
+    (Checked { number: 0, place: 0, room: 0, length: sheet.len() as u64 }, sheet.to_vec())
+}
+
+/// What it gives where the room is too short.
+fn too_short() -> (Checked, Vec<u8>) {
+    (Checked { number: 0, place: 0, room: 3, length: 0 }, Vec::new())
+}
 
 fn report_of(kind: u64, today: u64, container: &[u8]) -> Vec<u8> {
     let mut room = [0xAA; 512];
@@ -22,23 +44,17 @@ fn round_trips() {
         for _ in 0..ROUNDS {
             let card = conforming(&mut rng, kind);
             let (container, sheet) = (card.container(), card.sheet());
-            assert_eq!(check(kind, card.today, &container), (0, 0));
+            assert_eq!(verdict(kind, card.today, &container), (0, 0));
 
-            let mut room = vec![0xAA; sheet.len() + 3];
-            assert_eq!(read(kind, card.today, &container, &mut room), (0, 0, sheet.len() as u64));
-            assert_eq!(room[..sheet.len()], sheet);
-            assert_eq!(room[sheet.len()..], [0; 3]);
+            assert_eq!(check_into(kind, card.today, &container, sheet.len() + 3), sheet_told(&sheet));
             let mut room = vec![0xAA; container.len() + 3];
             assert_eq!(write(kind, card.today, &sheet, &mut room), (0, 0, container.len() as u64));
             assert_eq!(room[..container.len()], container);
             assert_eq!(room[container.len()..], [0; 3]);
 
             // The smallest rooms.
-            let mut room = vec![0xAA; sheet.len()];
-            assert_eq!(read(kind, card.today, &container, &mut room).0, 0);
-            let mut room = vec![0xAA; sheet.len() - 1];
-            assert_eq!(read(kind, card.today, &container, &mut room), (3, 0, 0));
-            assert!(room.iter().all(|&byte| byte == 0));
+            assert_eq!(check_into(kind, card.today, &container, sheet.len()), sheet_told(&sheet));
+            assert_eq!(check_into(kind, card.today, &container, sheet.len() - 1), too_short());
             let mut room = vec![0xAA; container.len()];
             assert_eq!(write(kind, card.today, &sheet, &mut room).0, 0);
             let mut room = vec![0xAA; container.len() - 1];
@@ -66,20 +82,23 @@ fn limits() {
             let card = conforming_of_size(&mut rng, kind, 32_768);
             let (container, sheet) = (card.container(), card.sheet());
             assert_eq!(container.len(), 32_768);
-            assert_eq!(check(kind, card.today, &container), (0, 0));
+            assert_eq!(verdict(kind, card.today, &container), (0, 0));
             let mut room = vec![0xAA; 32_769];
             assert_eq!(write(kind, card.today, &sheet, &mut room), (0, 0, 32_768));
             assert_eq!(room[..32_768], container);
             assert_eq!(room[32_768], 0);
-            let mut room = vec![0xAA; sheet.len()];
-            assert_eq!(read(kind, card.today, &container, &mut room), (0, 0, sheet.len() as u64));
-            assert_eq!(room, sheet);
+            for room in [sheet.len(), SHEET_ROOM] {
+                assert_eq!(check_into(kind, card.today, &container, room), sheet_told(&sheet));
+            }
+            assert_eq!(check_into(kind, card.today, &container, sheet.len() - 1), too_short());
             assert_eq!(write(kind, card.today, &sheet, &mut [0xAA; 10]), (3, 0, 0));
 
             let card = conforming_of_size(&mut rng, kind, 32_769);
             let (container, sheet) = (card.container(), card.sheet());
             assert_eq!(container.len(), 32_769);
-            assert_eq!(check(kind, card.today, &container), (4, 0));
+            assert_eq!(verdict(kind, card.today, &container), (4, 0));
+            let refused = Checked { number: 4, place: 0, room: 0, length: 0 };
+            assert_eq!(check_into(kind, card.today, &container, 40_000), (refused, Vec::new()));
             let mut room = vec![0xAA; 40_000];
             assert_eq!(write(kind, card.today, &sheet, &mut room), (4, 0, 0));
             assert!(room.iter().all(|&byte| byte == 0));
@@ -103,7 +122,7 @@ fn reports_hide_personal_bytes() {
             let card = conforming(&mut rng, kind);
             let twin = personal_twin(&mut rng, &card);
             let (one, other) = (card.container(), twin.container());
-            assert_eq!(check(kind, card.today, &other), (0, 0));
+            assert_eq!(verdict(kind, card.today, &other), (0, 0));
             assert_eq!(report_of(kind, card.today, &one), report_of(kind, card.today, &other));
             changed += usize::from(one != other);
         }
@@ -121,7 +140,7 @@ fn reports_show_open_values() {
             let one = conforming(&mut rng, kind);
             let mut other = conforming(&mut rng, kind);
             other.today = one.today;
-            if check(kind, other.today, &other.container()) != (0, 0) {
+            if verdict(kind, other.today, &other.container()) != (0, 0) {
                 continue;
             }
             let open = |card: &second::generate::Card| -> Vec<u8> {
@@ -160,19 +179,12 @@ fn calls_agree() {
         if matches!(record.call, Call::FascnDecode | Call::FascnEncode) {
             continue;
         }
-        let (number, place) = check(kind, today, bytes);
-        let mut room = vec![0xAA; bytes.len() + 40];
-        let (read_number, read_place, length) = read(kind, today, bytes, &mut room);
-        assert_eq!((read_number, read_place), (number, place));
-        assert!(room[length as usize..].iter().all(|&byte| byte == 0));
+        let (Checked { number, place, .. }, sheet) = check_into(kind, today, bytes, bytes.len() + 6);
         assert_eq!(view(kind, today, bytes, 0).0, if number == 0 { 6 } else { number });
         if number == 0 {
-            let sheet = room[..length as usize].to_vec();
             let mut room = vec![0xAA; bytes.len()];
             assert_eq!(write(kind, today, &sheet, &mut room), (0, 0, bytes.len() as u64));
             assert_eq!(room, bytes);
-        } else {
-            assert_eq!(length, 0);
         }
         let mut room = vec![0xAA; 600];
         let (report_number, length) = report(kind, today, bytes, &mut room);
@@ -182,24 +194,63 @@ fn calls_agree() {
             assert!(text.contains(&format!("\nverdict {} {}\n", number, place)));
         }
 
-        // A sheet that is written is read back.
+        // A sheet that is written comes back.
         let mut room = vec![0xAA; 40_000];
         let (number, _, length) = write(kind, today, bytes, &mut room);
         if number == 0 {
             let container = room[..length as usize].to_vec();
-            assert_eq!(check(kind, today, &container), (0, 0));
-            let mut room = vec![0xAA; bytes.len()];
-            assert_eq!(read(kind, today, &container, &mut room), (0, 0, bytes.len() as u64));
-            assert_eq!(room, bytes);
+            assert_eq!(check_into(kind, today, &container, bytes.len()), sheet_told(bytes));
         } else {
             assert!(room.iter().all(|&byte| byte == 0));
         }
     }
 }
 
+/// The verdict is the same in every one of these rooms. Beside a 0 there is a 3 exactly where the room is shorter than the sheet,
+/// and else always the same sheet; beside another verdict there is neither.
+fn same_in_every_room(kind: u64, today: u64, container: &[u8], rooms: impl Fn(usize) -> Vec<usize>) {
+    let (answer, sheet) = check_into(kind, today, container, container.len() + 6);
+    assert_eq!(answer.room, 0);
+    assert_eq!(answer.length > 0, answer.number == 0);
+    for room in rooms(sheet.len()) {
+        let expected = if room < sheet.len() { too_short() } else { (answer, sheet.clone()) };
+        assert_eq!(check_into(kind, today, container, room), expected, "kind {}, room {}", kind, room);
+    }
+}
+
+#[test]
+fn rooms_of_made_ones() {
+    let mut inputs = Inputs::new(6);
+    for _ in 0..60_000 {
+        let record = inputs.record();
+        if !matches!(record.call, Call::FascnDecode | Call::FascnEncode) {
+            same_in_every_room(record.kind, record.today, &record.bytes, |sheet| {
+                vec![0, 1, sheet / 2, sheet.saturating_sub(1), sheet, sheet + 1, record.room]
+            });
+        }
+    }
+}
+
+/// Every room, for a small container of each kind and for those in which one byte is another.
+#[test]
+fn rooms_of_small_ones() {
+    for kind in all_kinds() {
+        let container = small(kind);
+        let rooms = |_: usize| (0..container.len() + 10).collect();
+        same_in_every_room(kind, EXAMPLE_DAY, &container, rooms);
+        for at in 0..container.len() {
+            let mut changed = container.clone();
+            changed[at] ^= 1;
+            same_in_every_room(kind, EXAMPLE_DAY, &changed, rooms);
+        }
+        same_in_every_room(0, EXAMPLE_DAY, &container, rooms);
+        same_in_every_room(kind, 0, &container, rooms);
+    }
+}
+
 #[test]
 fn small_ones_conform() {
     for kind in all_kinds() {
-        assert_eq!(check(kind, EXAMPLE_DAY, &small(kind)), (0, 0), "kind {}", kind);
+        assert_eq!(verdict(kind, EXAMPLE_DAY, &small(kind)), (0, 0), "kind {}", kind);
     }
 }

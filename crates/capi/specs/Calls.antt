@@ -1,4 +1,4 @@
--- The seven calls as C has them. Each record is the whole contract of one function: the record of the door's call, of the numbers that the function answers
+-- The six calls as C has them. Each record is the whole contract of one function: the record of the door's call, of the numbers that the function answers
 -- and stores. Nothing is left open (`promises`, `SettledForC`).
 use Prim.Native.Nat.{ℕ}
 use mathlib.Core.Path.{_≡_}
@@ -6,7 +6,7 @@ use mathlib.Core.List.{List}
 use lib.ListN.{length, getD}
 use Rattle.fascn.specs.declared.Numbers.{Numbers}
 use Rattle.views.specs.Views.{viewed}
-use Rattle.prosianek.specs.Calls.{Checks, Reads, Writes, Reports, Decodes, Encodes}
+use Rattle.prosianek.specs.Calls.{Checks, Writes, Reports, Decodes, Encodes}
 
 -- nine numbers in 01's order: agency, system, credential, series, issue, person, category, organisation, association
 abbrev pub numbersOf : List ℕ → Numbers
@@ -23,11 +23,8 @@ numbersOf l =
       association = getD l 8 0;
     }
 
-pub record CChecks (kind today : ℕ) (c : List ℕ) (number place : ℕ) : Type 0 where
-  pub answers : Checks kind today c (record { number = number; place = place })
-
-pub record CReads (kind today : ℕ) (c before after : List ℕ) (number place size : ℕ) : Type 0 where
-  pub answers : Reads kind today c before after (record { number = number; place = place; length = size })
+pub record CChecks (kind today : ℕ) (c before after : List ℕ) (number place room size : ℕ) : Type 0 where
+  pub answers : Checks kind today c before after (record { verdict = record { number = number; place = place }; room = room; length = size })
 
 pub record CWrites (kind today : ℕ) (s before after : List ℕ) (number place size : ℕ) : Type 0 where
   pub answers : Writes kind today s before after (record { number = number; place = place; length = size })

@@ -1,32 +1,26 @@
-// The seven calls for C: include/prosianek.h declares them. A slice is a pointer and a length there, a lent number a pointer;
+// The six calls for C: include/prosianek.h declares them. A slice is a pointer and a length there, a lent number a pointer;
 // each function answers 01's number. Each contract is one record of specs/Calls.antt.
-ghost use Rattle.capi.specs.Calls.{CChecks, CReads, CWrites, CViews, CReports, CDecodes, CEncodes};
+ghost use Rattle.capi.specs.Calls.{CChecks, CWrites, CViews, CReports, CDecodes, CEncodes};
 use fascn::Numbers;
 
 #[no_mangle]
-pub extern "C" fn prosianek_check(kind: u64, today: u64, container: &[u8], place: &mut u64) -> u64
-    ensures { λ r. ⌜ CChecks kind today (now (container .entry)) r (now (place .exit)) ⌝ }
-{
-    let v = prosianek::check(kind, today, container);
-    *place = v.place;
-    v.number
-}
-
-#[no_mangle]
-pub extern "C" fn prosianek_read(
+pub extern "C" fn prosianek_check(
     kind: u64,
     today: u64,
     container: &[u8],
     sheet: &mut [u8],
     place: &mut u64,
+    room: &mut u64,
     length: &mut u64,
 ) -> u64
-    ensures { λ r. ⌜ CReads kind today (now (container .entry)) (now (sheet .entry)) (now (sheet .exit)) r (now (place .exit)) (now (length .exit)) ⌝ }
+    ensures { λ r. ⌜ CChecks kind today (now (container .entry)) (now (sheet .entry)) (now (sheet .exit)) r (now (place .exit)) (now (room .exit)) (now (length .exit)) ⌝ }
 {
-    let done = prosianek::read(kind, today, container, sheet);
-    *place = done.place;
-    *length = done.length;
-    done.number
+    let checked = prosianek::check(kind, today, container, sheet);
+    let verdict = checked.verdict;
+    *place = verdict.place;
+    *room = checked.room;
+    *length = checked.length;
+    verdict.number
 }
 
 #[no_mangle]

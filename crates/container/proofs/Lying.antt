@@ -18,12 +18,12 @@ use Rattle.laws.proofs.Bases.{below-drop}
 use Rattle.laws.proofs.Cases.{test, which}
 use Rattle.lengths.specs.Length.{lengthBytes, readLength, Spelt}
 use Rattle.lengths.proofs.Writing.{some-bytes}
-use Rattle.kinds.specs.Tables.{Entry, Table, table}
+use Rattle.kinds.specs.Tables.{Entry, Table, table, IsKind}
 use Rattle.verdicts.specs.Verdicts.{found}
 use Rattle.verdicts.specs.declared.Finding.{Finding}
 use Rattle.verdicts.specs.declared.Outcome.the-variants.{Fine, Broken}
 use Rattle.container.specs.Container.{Values, tagBytes, long, tagHere, outerTag, Allowed, largest}
-use Rattle.container.specs.Reading.{Parsed, values, fault, Part, valuesOf, alone, prepend, Element, whole, broken, element, follow, parse, inner, outer, located, parsed, outcomeOf}
+use Rattle.container.specs.Reading.{Parsed, values, fault, Part, valuesOf, alone, prepend, Element, whole, broken, element, follow, parse, inner, outer, located, parsed, outcomeOf, outcome}
 use Rattle.container.specs.Map.{laid, noted, mapOf, rowValue, rowValues}
 use Rattle.container.specs.declared.Map.{Map}
 use Rattle.container.proofs.One.{element-is}
@@ -266,6 +266,11 @@ module _ (kind today : ℕ) (c : List ℕ) {m : Map} (e : m ≡ mapOf (located k
   outcome-is : m .outcome ≡ outcomeOf (alone (located kind today c))
   outcome-is = ap (λ (m : Map). m .outcome) e ∙ map-outcome (located kind today c)
 
+  -- its outcome is that of the bytes
+  pub told : m .outcome ≡ outcome kind today c
+  unfolding outcome parsed
+  told = outcome-is
+
   -- something is wrong
   pub told-broken : {f : Finding} → m .outcome ≡ Broken f → located kind today c ≡ fault f
   told-broken {f} o = go (located kind today c) (sym outcome-is ∙ o)
@@ -285,6 +290,9 @@ module _ (kind today : ℕ) (c : List ℕ) {m : Map} (e : m ≡ mapOf (located k
       go : (p : Parsed Part) → located kind today c ≡ p → outcomeOf (alone p) ≡ Fine → (ps : List (Option Part)) × (located kind today c ≡ values ps)
       go (values ps) q z = (ps, q)
       go (fault f) q z = let z : _≡_ {A = ℕ} 0 1 = cc in absurd (omega arith)
+
+  pub fine-kind : m .outcome ≡ Fine → IsKind kind
+  fine-kind o = let (ps, q) = told-fine o in in-outer-values kind today c ps q .0
 
   pub fine-size : m .outcome ≡ Fine → length c ≤ largest
   fine-size o = let (ps, q) = told-fine o in in-outer-values kind today c ps q .2

@@ -9,7 +9,7 @@ ghost use Rattle.laws.specs.Layout.{part};
 ghost use Rattle.kinds.specs.Tables.{table, permits};
 ghost use Rattle.verdicts.specs.Verdicts.{found};
 ghost use Rattle.container.specs.Container.{long, tagHere, outerTag, largest};
-ghost use Rattle.container.specs.Reading.{element, outer, located, verdict};
+ghost use Rattle.container.specs.Reading.{element, outer, located};
 ghost use Rattle.container.specs.Map.{lost, mapOf, Inside, mapFrom, Steps, valueAt, lengthsOf};
 use kinds::Row;
 use kinds::ValueRule;
@@ -18,7 +18,6 @@ use verdicts::Fault;
 use verdicts::Finding;
 use verdicts::Outcome;
 use verdicts::Ruling;
-use verdicts::Verdict;
 
 // The outcome, and from where to where the value of each row lies: 0 and 0 for a row that is absent, and throughout where
 // something is wrong.
@@ -243,15 +242,6 @@ pub fn judge(kind: u64, today: u64, c: &[u8]) -> Map
         return outright(Fault::LargeContainer);
     }
     whole(kind, today, c)
-}
-
-// The verdict: 0, or the number of the first broken rule and its place.
-pub fn check(kind: u64, today: u64, container: &[u8]) -> Verdict
-    ensures { λ r. ⌜ r ≡ verdict kind today (now (container .entry)) ⌝ }
-{
-    let map = judge(kind, today, container);
-    let outcome = map.outcome;
-    verdicts::verdict_of(outcome)
 }
 
 // The value of a row, by the map; no bytes where it is absent.

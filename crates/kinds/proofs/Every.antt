@@ -5,12 +5,12 @@ use mathlib.Core.Bool.{Bool, true, cond}
 use mathlib.Core.Logic.{inl, inr}
 use mathlib.Core.List.{[], _∷_}
 use native.Mathlib.Omega.{arith}
-use lib.Dec.{leb, eqb}
+use lib.Dec.{leb, ltb, eqb}
 use lib.ListN.{length}
-use borrow.Author.Tests.{leb-true, eqb-true}
+use borrow.Author.Tests.{leb-true, ltb-true, eqb-true, ne-eqb}
 use Rattle.laws.specs.Tests.{allBelow}
 use Rattle.laws.proofs.Cases.{which, at-each, along}
-use Rattle.kinds.specs.Tables.{Table, tables, table, find, rowOf, lastOf, lastRow}
+use Rattle.kinds.specs.Tables.{Table, tables, table, IsKind, find, rowOf, lastOf, lastRow}
 use Rattle.kinds.specs.declared.ValueRule.{ValueRule}
 use Rattle.kinds.specs.declared.Row.the-variants.{At}
 
@@ -28,6 +28,14 @@ of-every test t = of-every-kind (λ k rows. test rows) t (λ k. at-each (λ k. t
 pub few-rows : (kind : ℕ) → length (table kind) ≤ 15
 unfolding allBelow
 few-rows kind = leb-true _ _ (of-every (λ rows. leb (length rows) 15) refl kind)
+
+-- ---- every kind has a row
+
+pub some-rows : (kind : ℕ) → IsKind kind → 0 < length (table kind)
+unfolding allBelow
+some-rows kind k =
+    let t = at-each (λ k. cond (eqb k 0) true (ltb 0 (length (table k)))) (length ([] ∷ tables)) refl kind (omega arith) in
+    ltb-true _ _ (rw (ne-eqb kind 0 (λ z. omega arith)) at t)
 
 -- every table ends with a row that must be there: its last mandatory row is its last
 pub last-is-all : (kind : ℕ) → lastRow kind ≡ length (table kind)

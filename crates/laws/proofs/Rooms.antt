@@ -156,6 +156,11 @@ pub filled-put : (p : List ℕ) (n : ℕ) → length p ≤ n → Put p (zeros n)
 unfolding filled
 filled-put p n h = record { room = sym (laid-zeros p n h); count = sym (taken-whole p (zeros n) (simp length-replicate h)); inside = simp length-replicate h }
 
+-- a room of no bytes is cleared as it stands
+pub no-room : (d : List ℕ) → length d ≡ 0 → d ≡ zeros (length d)
+no-room [] h = refl
+no-room (x ∷ d) h = absurd (omega arith)
+
 -- no text at all: zeros
 pub filled-none : (n : ℕ) → zeros n ≡ filled [] n
 unfolding filled

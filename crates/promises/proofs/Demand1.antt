@@ -1,4 +1,4 @@
--- Demand 1, of all seven calls. Assumes nothing.
+-- Demand 1, of all six calls. Assumes nothing.
 use Prim.Native.Nat.{ℕ, _+_, _≤_}
 use mathlib.Core.Logic.{_⊎_, inl, inr}
 use mathlib.Core.Path.{_≡_, refl, sym, ap, _∙_}
@@ -10,6 +10,7 @@ use lib.ListN.{length}
 use lib.Dec.{ltb, leb, eqb}
 use borrow.Author.Tests.{ltb-false}
 use Rattle.laws.specs.Room.{filled}
+use Rattle.laws.proofs.Rooms.{filled-none}
 use Rattle.laws.proofs.Cases.{which}
 use Rattle.dates.specs.Date.{isDate}
 use Rattle.kinds.specs.Tables.{table, isKind}
@@ -19,30 +20,29 @@ use Rattle.fascn.specs.Calls.{status, output, Encoded}
 use Rattle.fascn.specs.declared.Numbers.{Numbers}
 use Rattle.fascn.specs.declared.Decoded.{Decoded}
 use Rattle.fascn.proofs.Packing.{length-encoded}
-use Rattle.verdicts.specs.Verdicts.{numberOf, verdictOf}
+use Rattle.verdicts.specs.Verdicts.{numberOf}
 use Rattle.verdicts.specs.declared.Fault.{Fault}
 use Rattle.verdicts.proofs.Apart.{never-zero}
 use Rattle.verdicts.specs.declared.Fault.the-variants.{SmallRoom, LongNumber, NoElement, BadFascn}
 use Rattle.verdicts.specs.declared.Outcome.{Outcome}
 use Rattle.verdicts.specs.declared.Outcome.the-variants.{Fine, Broken}
 use Rattle.container.specs.Container.{Values, container, largest}
-use Rattle.container.specs.Reading.{Parsed, values, fault, Part, located, parsed, outcome, verdict}
+use Rattle.container.specs.Reading.{Parsed, values, fault, Part, located}
 use Rattle.sheet.specs.Sheet.{sheetOf}
-use Rattle.sheet.specs.Calls.{roomy, readOf, readOutput}
+use Rattle.sheet.specs.Calls.{roomy}
+use Rattle.sheet.specs.declared.Checked.{Checked}
 use Rattle.sections.specs.Opened.{opened, judged}
 use Rattle.writing.specs.Writing.{sizedOut, judgedOut, openedOut, writeOutput}
 use Rattle.views.specs.Views.{partOf, shown, viewOf, viewed}
 use Rattle.report.specs.Calls.{reportOutput}
 use Rattle.report.proofs.Answers.{report-cases}
+use Rattle.prosianek.specs.Calls.{Checks}
+use Rattle.prosianek.proofs.Checking.{broken, short, whole, ways, answered}
 use Rattle.prosianek.proofs.Decoding.{is-decoded, decoded-else}
 use Rattle.promises.specs.Demands.{Numbered, Clean, Demand1}
 use Rattle.promises.proofs.Rooms.{answer, Fits, left-nothing, left-text, clean}
 
 -- ---- every number is of 01's table
-
-numbered : (o : Outcome) → Numbered (verdictOf o .number)
-numbered Fine = inl refl
-numbered (Broken f) = inr (f .fault, refl)
 
 viewed-numbered : (kind today : ℕ) (c : List ℕ) (tag : ℕ) → Numbered (viewed kind today c tag .number)
 unfolding viewed
@@ -70,14 +70,6 @@ roomy-fits t room = elim (which (ltb room (length t))) [
   | inl l ↦ rw l tt
   | inr l ↦ rw l (ltb-false _ _ l)
 ]
-
-read-fits : (kind today : ℕ) (c : List ℕ) (room : ℕ) → Fits room (readOutput kind today c room)
-unfolding readOutput
-read-fits kind today c room = go (parsed kind today c)
-  where
-    go : (p : Parsed (List ℕ)) → Fits room (readOf p room)
-    go (values vs) = roomy-fits (sheetOf vs) room
-    go (fault f) = tt
 
 write-fits : (kind today : ℕ) (s : List ℕ) (room : ℕ) → Fits room (writeOutput kind today s room)
 unfolding writeOutput
@@ -108,6 +100,17 @@ write-fits kind today s room =
 report-fits : (kind today : ℕ) (c : List ℕ) (room : ℕ) → Fits room (reportOutput kind today c room)
 report-fits kind today c room = report-cases kind today c room (Fits room) (λ f. tt) (λ t l s. omega arith)
 
+-- ---- a check: whichever way it goes, of both its numbers
+
+check-clean : {kind today : ℕ} {c before after : List ℕ} {r : Checked} → Checks kind today c before after r
+    → Clean before after (r .verdict .number) (r .length) × Clean before after (r .room) (r .length)
+check-clean {before = d} h =
+    elim (ways h) [
+      | broken f e a z ↦ rw a (left-nothing d (inr (f .fault, refl)) (z ∙ filled-none (length d)), left-nothing d (inl refl) (z ∙ filled-none (length d)))
+      | short vs e l a z ↦ rw a (left-nothing d (inl refl) (z ∙ filled-none (length d)), left-nothing d (inr (SmallRoom, refl)) (z ∙ filled-none (length d)))
+      | whole vs e l a q ↦ rw a (left-text (sheetOf vs) d refl l q, left-text (sheetOf vs) d refl l q)
+    ]
+
 -- ---- encoding: 7, 3, or the 25 bytes
 
 encode-clean : (n : Numbers) (d e : List ℕ) (k : ℕ) → Encoded n d e k → ((k ≡ 0) × Clean d e k 25) ⊎ ((k ≡ 0 → ⊥) × Clean d e k 0)
@@ -132,8 +135,7 @@ encode-clean n d e k l =
 
 pub demand-1 : Demand1
 demand-1 = record {
-  check-answers = λ kind today c. (verdict kind today c, record { answer = refl }, numbered (outcome kind today c));
-  read-answers = λ kind today c before. (_, _, record { leaves = answer (readOutput kind today c (length before)) before });
+  check-answers = answered;
   write-answers = λ kind today s before. (_, _, record { leaves = answer (writeOutput kind today s (length before)) before });
   view-answers = λ kind today c tag at. let v = viewed kind today c tag in (
     v .number,
@@ -146,7 +148,7 @@ demand-1 = record {
   report-answers = λ kind today c before. (_, _, record { leaves = answer (reportOutput kind today c (length before)) before });
   decode-answers = λ s b. (decoded s, is-decoded s b refl, decoded-numbered s);
   encode-answers = λ n before. (_, _, record { leaves = record { answer = refl; room = refl } });
-  read-clean = λ kind today c before after r h. clean (readOutput kind today c (length before)) before (read-fits kind today c (length before)) (h .leaves);
+  check-clean = λ kind today c before after r h. check-clean h;
   write-clean = λ kind today s before after r h. clean (writeOutput kind today s (length before)) before (write-fits kind today s (length before)) (h .leaves);
   report-clean = λ kind today c before after r h. clean (reportOutput kind today c (length before)) before (report-fits kind today c (length before)) (h .leaves);
   encode-clean = λ n before after number h. encode-clean n before after number (h .leaves);

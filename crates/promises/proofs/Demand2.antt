@@ -1,6 +1,6 @@
 -- Demand 2: conforms exactly when, the first broken rule, there and back. Assumes nothing.
-use Prim.Native.Nat.{ℕ, _+_, _≤_}
-use mathlib.Core.Logic.{_↔_, inl, inr}
+use Prim.Native.Nat.{ℕ, _+_, _≤_, _<_}
+use mathlib.Core.Logic.{_⊎_, _↔_, inl, inr, ⊎-elim}
 use mathlib.Core.Path.{_≡_, refl, sym, ap, _∙_}
 use mathlib.Core.Bool.{true}
 use mathlib.Core.List.{List}
@@ -9,6 +9,7 @@ use lib.ListN.{length, take}
 use lib.Dec.{ltb}
 use borrow.Author.Tests.{le-ltb}
 use Rattle.laws.specs.Bytes.{Bytes}
+use Rattle.laws.specs.Room.{zeros}
 use Rattle.laws.proofs.Cases.{which}
 use Rattle.laws.proofs.Rooms.{filled-front}
 use Rattle.fascn.specs.Fascn.{IsFascnOf, encoded, inRange}
@@ -19,24 +20,27 @@ use Rattle.fascn.proofs.Framing.{range-exact}
 use Rattle.fascn.proofs.Packing.{length-encoded}
 use Rattle.verdicts.specs.Verdicts.{numberOf, found, verdictOf}
 use Rattle.verdicts.specs.declared.Fault.{Fault}
+use Rattle.verdicts.specs.declared.Fault.the-variants.{SmallRoom}
 use Rattle.verdicts.specs.declared.Outcome.the-variants.{Broken}
 use Rattle.verdicts.specs.declared.Verdict.{Verdict}
 use Rattle.verdicts.specs.declared.Done.{Done}
+use Rattle.verdicts.proofs.Apart.{never-zero}
 use Rattle.kinds.specs.Tables.{table}
 use Rattle.container.specs.Container.{Values, Conforms}
 use Rattle.container.specs.Reading.{Parsed, values, fault, parsed, outcomeOf, outcome, verdict}
 use Rattle.container.specs.InOrder.{Named}
 use Rattle.container.proofs.Named.{named-back, named-exact}
 use Rattle.container.proofs.Promise.{exact, exactly-when, unique, named}
-use Rattle.sheet.specs.Sheet.{IsSheet}
-use Rattle.sheet.specs.Calls.{readOutput}
-use Rattle.sheet.proofs.Answers.{read-fits}
+use Rattle.sheet.specs.Sheet.{sheetOf, IsSheet}
+use Rattle.sheet.specs.declared.Checked.{Checked}
+use Rattle.sheet.proofs.Sheets.{conforming-sheet, conforming-some}
 use Rattle.sheet.proofs.Bound.{sheet-bound}
 use Rattle.writing.specs.Writing.{writeOutput}
-use Rattle.writing.proofs.Promise.{accepted, read-values, read-write, write-read}
+use Rattle.writing.proofs.Promise.{accepted, read-write, write-read}
 use Rattle.views.specs.Views.{View, viewed}
 use Rattle.views.proofs.Elements.{Shows, element-view, element-place, absent-view, foreign-view}
-use Rattle.prosianek.specs.Calls.{Reads, Writes, Views}
+use Rattle.prosianek.specs.Calls.{Checks, Writes, Views}
+use Rattle.prosianek.proofs.Checking.{broken, short, whole, when-short, when-whole, ways}
 use Rattle.prosianek.proofs.Decoding.{decoded-once, decoded-0}
 use Rattle.promises.specs.Demands.{Shown, Demand2}
 use Rattle.promises.proofs.Rooms.{text-of, gave}
@@ -61,16 +65,58 @@ only-first kind today c b r a f place h =
     let q : r ≡ record { number = numberOf f; place = place } = a ∙ ap (λ (x : Parsed (List ℕ)). verdictOf (outcomeOf x)) (named-back kind today (found f place) c b h) in
     (ap (λ (v : Verdict). v .number) q, ap (λ (v : Verdict). v .place) q)
 
+-- ---- checks
+
+no-3 : {n : ℕ} → n ≡ 0 → n ≡ numberOf SmallRoom → ⊥
+no-3 z t = omega arith
+
+module _ {kind today : ℕ} {c before after : List ℕ} {r : Checked} (b : Bytes c) (h : Checks kind today c before after r) where
+  room-3 : (r .room ≡ numberOf SmallRoom) ↔ ((vs : Values) × Conforms kind today vs c × (length before < length (sheetOf vs)))
+  room-3 = (
+    λ t. elim (ways h) [
+      | broken f e a z ↦ absurd (no-3 (rw a) t)
+      | short vs e l a z ↦ (vs, exact kind today c b vs .0 e, l)
+      | whole vs e l a q ↦ absurd (no-3 (rw a) t)
+    ],
+    λ v. rw (when-short h (v .0) (exact kind today c b (v .0) .1 (v .1)) (v .2) .0),
+  )
+
+  -- a room that suffices gets the sheet
+  sheet-whole : r .verdict .number ≡ 0 → r .room ≡ 0 → (vs : Values) × Conforms kind today vs c × (take (r .length) after ≡ sheetOf vs)
+  sheet-whole n z =
+      elim (ways h) [
+        | broken f e a q ↦ absurd (never-zero (f .fault) (rw a at n))
+        | short vs e l a q ↦ absurd (no-3 z (rw a))
+        | whole vs e l a q ↦ (vs, exact kind today c b vs .0 e, rw (a, q) (filled-front (sheetOf vs) (length before)))
+      ]
+
+  room-for-sheet : length c + 6 ≤ length before → r .room ≡ 0
+  room-for-sheet l =
+      elim (ways h) [
+        | broken f e a q ↦ rw a
+        | short vs e k a q ↦ absurd (omega (arith, sheet-bound kind today vs c (exact kind today c b vs .0 e)))
+        | whole vs e k a q ↦ rw a
+      ]
+
+room-0-or-3 : {kind today : ℕ} {c before after : List ℕ} {r : Checked} → Checks kind today c before after r → (r .room ≡ 0) ⊎ (r .room ≡ numberOf SmallRoom)
+room-0-or-3 h = elim (ways h) [
+  | broken f e a q ↦ inl (rw a)
+  | short vs e l a q ↦ inr (rw a)
+  | whole vs e l a q ↦ inl (rw a)
+]
+
+no-sheet : {kind today : ℕ} {c before after : List ℕ} {r : Checked} → Checks kind today c before after r → (r .verdict .number ≡ 0 → ⊥) ⊎ (r .room ≡ 0 → ⊥)
+    → (r .length ≡ 0) × (after ≡ zeros (length before))
+no-sheet h n =
+    elim (ways h) [
+      | broken f e a q ↦ (rw a, q)
+      | short vs e l a q ↦ (rw a, q)
+      | whole vs e l a q ↦ absurd (⊎-elim (λ m. m (rw a)) (λ m. m (rw a)) n)
+    ]
+
 -- ---- sheets
 
 module _ (kind today : ℕ) where
-  reads : (c before after : List ℕ) (r : Done) → Bytes c → Reads kind today c before after r → r .number ≡ 0
-      → (vs : Values) × Conforms kind today vs c × IsSheet (table kind) vs (take (r .length) after)
-  reads c before after r b h z =
-      let t = text-of (readOutput kind today c (length before)) before (h .leaves) z in
-      let v = read-values kind today c b (length before) (t .0) (t .1) in
-      (v .0, v .1, rw (t .2) (v .2))
-
   writes : (s before after : List ℕ) (r : Done) → Bytes s → Writes kind today s before after r → r .number ≡ 0
       → (vs : Values) × IsSheet (table kind) vs s × Conforms kind today vs (take (r .length) after)
   writes s before after r b h z =
@@ -87,19 +133,27 @@ module _ (kind today : ℕ) where
     λ v. gave before (accepted kind today s (length before) b (v .1) .1 (v .0, v .2, v .3, v .4)) (h .leaves) .0,
   )
 
-  there : (c before after : List ℕ) (r : Done) → Bytes c → Reads kind today c before after r → r .number ≡ 0
+  there : (c before after : List ℕ) (r : Checked) → Bytes c → Checks kind today c before after r → r .verdict .number ≡ 0 → r .room ≡ 0
       → (before₂ after₂ : List ℕ) (r₂ : Done) → Writes kind today (take (r .length) after) before₂ after₂ r₂ → length c ≤ length before₂
       → (r₂ .number ≡ 0) × (take (r₂ .length) after₂ ≡ c)
-  there c before after r b h z before₂ after₂ r₂ k l =
-      let t = text-of (readOutput kind today c (length before)) before (h .leaves) z in
-      gave before₂ (rw (t .2) (read-write kind today c b (length before) (length before₂) (t .0) (t .1) l)) (k .leaves)
+  there c before after r b h n z before₂ after₂ r₂ k l =
+      let (vs, f, t) = sheet-whole b h n z in
+      gave before₂ (rw t (read-write kind today c b vs f (length before₂) l)) (k .leaves)
 
   back : (s before after : List ℕ) (r : Done) → Bytes s → Writes kind today s before after r → r .number ≡ 0
-      → (before₂ after₂ : List ℕ) (r₂ : Done) → Reads kind today (take (r .length) after) before₂ after₂ r₂ → length s ≤ length before₂
-      → (r₂ .number ≡ 0) × (take (r₂ .length) after₂ ≡ s)
-  back s before after r b h z before₂ after₂ r₂ k l =
-      let t = text-of (writeOutput kind today s (length before)) before (h .leaves) z in
-      gave before₂ (rw (t .2) (write-read kind today s b (length before) (length before₂) (t .0) (t .1) l)) (k .leaves)
+      → (before₂ after₂ : List ℕ) (r₂ : Checked) → Checks kind today (take (r .length) after) before₂ after₂ r₂
+      → (r₂ .verdict .number ≡ 0) × (length s ≤ length before₂ → (r₂ .room ≡ 0) × (take (r₂ .length) after₂ ≡ s))
+  unfolding outcome
+  back s before after r b h z before₂ after₂ r₂ k =
+      let (c, e, t) = text-of (writeOutput kind today s (length before)) before (h .leaves) z in
+      let (vs, p, w) = write-read kind today s b (length before) c e in
+      let k′ : Checks kind today c before₂ after₂ r₂ = rw t at k in (
+        rw (k′ .judges .answer, p),
+        λ l.
+            let (a, q) = when-whole k′ vs p (rw (← w) l) in
+            let front : take (r₂ .length) after₂ ≡ sheetOf vs = rw (a, q) (filled-front (sheetOf vs) (length before₂)) in
+            (rw a, front ∙ sym w),
+      )
 
 -- ---- views
 
@@ -138,17 +192,25 @@ encoding n d e k r h l = l .answer ∙ rw (r, le-ltb (length d) 25 h)
 
 pub demand-2 : Demand2
 demand-2 = record {
-  exactly-when = λ kind today c b r a. rw (a .answer) (exactly-when kind today c b);
+  exactly-when = λ kind today c before after r b h. rw (h .judges .answer) (exactly-when kind today c b);
   only-one = unique;
-  first-named = λ kind today c b r a. first-named kind today c b r (a .answer);
-  only-first = λ kind today c b r a. only-first kind today c b r (a .answer);
+  first-named = λ kind today c before after r b h. first-named kind today c b (r .verdict) (h .judges .answer);
+  only-first = λ kind today c before after r b h. only-first kind today c b (r .verdict) (h .judges .answer);
+  any-room = λ kind today c before₁ before₂ after₁ after₂ r₁ r₂ h k. h .judges .answer ∙ sym (k .judges .answer);
   parsed-values = exact;
   parsed-fault = λ kind today c b f place. named-exact kind today c b (found f place);
-  read-values = reads;
+  room-3 = λ kind today c before after r b h. room-3 b h;
+  room-0-or-3 = λ kind today c before after r h. room-0-or-3 h;
+  empty-room = λ kind today c after r b h z.
+      let (vs, f) = exactly-when kind today c b .0 (rw (h .judges .answer) at z) in
+      room-3 b h .1 (vs, f, conforming-some kind today vs c f);
+  no-sheet = λ kind today c before after r h. no-sheet h;
+  sheet-values = λ kind today c before after r b h n z.
+      let (vs, f, t) = sheet-whole b h n z in
+      (vs, f, rw t (conforming-sheet kind today vs c f));
   write-values = writes;
   accepted-when = accepts;
-  room-for-sheet = λ kind today c b vs f before after r h l.
-      gave before (read-fits kind today c (length before) vs (exact kind today c b vs .1 f) (omega (arith, sheet-bound kind today vs c f))) (h .leaves) .0;
+  room-for-sheet = λ kind today c before after r b h. room-for-sheet b h;
   read-then-write = there;
   write-then-read = back;
   view-value = λ kind today c b vs h i t o e v q at number place part bytes a. shown kind today c t (element-view kind today c b vs h i e v q) a;

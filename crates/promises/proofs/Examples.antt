@@ -1,7 +1,7 @@
 -- The rows of the table hold: each is tested by computation, and what the tests say is what the rules say. Assumes nothing.
 use Prim.Native.Nat.{ℕ}
 use mathlib.Core.Logic.{_↔_}
-use mathlib.Core.Path.{_≡_, refl, sym, ap, _∙_}
+use mathlib.Core.Path.{_≡_, refl, sym, ap, ap₂, _∙_}
 use mathlib.Core.Bool.{Bool, true, false, not, _&&_, true≢false}
 use mathlib.Core.Option.{Option, none, some}
 use mathlib.Core.List.{List, [], _∷_}
@@ -29,9 +29,15 @@ use Rattle.minutiae.specs.Judged.{pointHolds, pointsHold, viewHead, extent, rec
 use Rattle.der.specs.Length.{readLength as readDer}
 use Rattle.der.specs.Walk.{headOf, items, judged as walked, certificate}
 use Rattle.rules.specs.Rules.{ruleOf}
+use Rattle.verdicts.specs.Output.{bytesOf, doneOf, Leaves}
+use Rattle.verdicts.specs.declared.Verdict.{Verdict}
+use Rattle.verdicts.specs.declared.Done.{Done}
 use Rattle.container.specs.Reading.{element, located, parsed, outcome, verdict}
 use Rattle.container.proofs.Promise.{exactly-when}
-use Rattle.promises.specs.Examples.{Example, fascn-of, no-fascn, spells, no-length, date, no-date, kept, late, conforms, breaks, today, Holds, All, examples}
+use Rattle.sheet.specs.Sheet.{sheetOf}
+use Rattle.sheet.specs.Calls.{sheetOutput, beside}
+use Rattle.prosianek.proofs.Checking.{joined}
+use Rattle.promises.specs.Examples.{Example, fascn-of, no-fascn, spells, no-length, date, no-date, kept, late, conforms, breaks, checks, today, Holds, All, examples}
 use Rattle.promises.proofs.Demand2.{first-named}
 
 -- ---- each row as a test
@@ -55,6 +61,10 @@ tested (late t e) = not (inWindow t e)
 tested (conforms kind c) = areBytes c && eqb (verdict kind today c .number) 0
 tested (breaks kind c number place) =
     areBytes c && not (eqb number 0) && eqb (verdict kind today c .number) number && eqb (verdict kind today c .place) place
+tested (checks kind c room number place short sheet) =
+    let v = verdict kind today c in
+    let o = sheetOutput kind today c room in
+    eqb (v .number) number && eqb (v .place) place && eqb (doneOf o .number) short && eqb (doneOf o .length) (length sheet) && same (bytesOf o) sheet
 
 allTested : List Example → Bool
 allTested [] = true
@@ -78,6 +88,23 @@ breaks-so kind c b number place z n p =
     let (f, e, h) = first-named kind today c b (verdict kind today c) refl (λ q. z (sym n ∙ q)) in
     (f, sym n ∙ e, rw p at h)
 
+-- an answer by its numbers
+by-numbers : (v : Verdict) (d : Done) {n p m l : ℕ} → v .number ≡ n → v .place ≡ p → d .number ≡ m → d .length ≡ l
+    → joined v d ≡ record { verdict = record { number = n; place = p }; room = m; length = l }
+by-numbers v d n p m l = rw (n, p, m, l)
+
+checks-so : (kind : ℕ) (c : List ℕ) (room number place short : ℕ) (sheet : List ℕ) → tested (checks kind c room number place short sheet) ≡ true
+    → Holds (checks kind c room number place short sheet)
+unfolding tested
+checks-so kind c room number place short sheet t before after r z h =
+    let v = verdict kind today c in
+    let o = sheetOutput kind today c room in
+    let d = all-true (eqb (v .number) number ∷ eqb (v .place) place ∷ eqb (doneOf o .number) short ∷ eqb (doneOf o .length) (length sheet) ∷ same (bytesOf o) sheet ∷ []) t in
+    let l : Leaves o before after (beside r) = rw z at (h .leaves) in (
+      ap₂ joined (h .judges .answer) (l .answer) ∙ by-numbers v (doneOf o) (eqb-true _ _ (d 0)) (eqb-true _ _ (d 1)) (eqb-true _ _ (d 2)) (eqb-true _ _ (d 3)),
+      l .room ∙ rw (z, same-eq (bytesOf o) sheet (d 4)),
+    )
+
 so : (e : Example) → tested e ≡ true → Holds e
 unfolding tested isNone
 so (fascn-of s n) t = let c = and-true (inRange n) (same s (encoded n)) t in record { in-range = range-exact n .0 (c .0); written = same-eq s (encoded n) (c .1) }
@@ -95,6 +122,7 @@ so (conforms kind c) t = let b = and-true (areBytes c) (eqb (verdict kind today 
 so (breaks kind c number place) t =
     let d = all-true (areBytes c ∷ not (eqb number 0) ∷ eqb (verdict kind today c .number) number ∷ eqb (verdict kind today c .place) place ∷ []) t in
     breaks-so kind c (are-bytes c (d 0)) number place (fails (eqb number 0) (eqb-true number 0, eq-eqb number 0) (d 1)) (eqb-true _ _ (d 2)) (eqb-true _ _ (d 3))
+so (checks kind c room number place short sheet) t = checks-so kind c room number place short sheet t
 
 all-so : (es : List Example) → allTested es ≡ true → All es
 unfolding allTested
@@ -102,7 +130,7 @@ all-so [] t = tt
 all-so (e ∷ es) t = let c = and-true (tested e) (allTested es) t in (so e (c .0), all-so es (c .1))
 
 all-tested : allTested examples ≡ true
-unfolding allTested tested areBytes isNone examples ones digits exclusive values checked characters encoded valuesOf framed decoded isFascn lengthBytes readLength daysIn exists isDate dateOf isMoment isUuid isPolicy isText ended isCreator pointHolds pointsHold viewHead extent recordHead isMinutiae readDer headOf items walked certificate ruleOf element located parsed outcome
+unfolding allTested tested areBytes isNone examples ones digits exclusive values checked characters encoded valuesOf framed decoded isFascn lengthBytes readLength daysIn exists isDate dateOf isMoment isUuid isPolicy isText ended isCreator pointHolds pointsHold viewHead extent recordHead isMinutiae readDer headOf items walked certificate ruleOf element located parsed outcome sheetOf sheetOutput
 all-tested = refl
 
 pub examples-hold : All examples

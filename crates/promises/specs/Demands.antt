@@ -1,5 +1,5 @@
--- The user's three demands, in the user's order and words, as statements about the seven calls of the door (`Checks`, `Reads`, `Writes`, `Views`,
--- `Reports`, `Decodes`, `Encodes`: what a call answers and leaves). Each is a record of statements, and `proofs/` has the theorem for each: `demand-1`,
+-- The user's three demands, in the user's order and words, as statements about the six calls of the door (`Checks`, `Writes`, `Views`, `Reports`,
+-- `Decodes`, `Encodes`: what a call answers and leaves; `Judges`: the verdict that a check gives). Each is a record of statements, and `proofs/` has the theorem for each: `demand-1`,
 -- `demand-2`, `demand-3`; `at-the-desk`, the third of what the desk program prints; `settled` and `settled-for-c`, that no answer is left open.
 --
 -- A room is `before` when it is lent and `after` when it comes back. `Bytes c` says that each number of c is below 256, as it is in every slice that a
@@ -20,7 +20,7 @@ use Rattle.fascn.specs.declared.Numbers.{Numbers}
 use Rattle.fascn.specs.declared.Decoded.{Decoded}
 use Rattle.verdicts.specs.Verdicts.{numberOf, found}
 use Rattle.verdicts.specs.declared.Fault.{Fault}
-use Rattle.verdicts.specs.declared.Fault.the-variants.{UnknownKind, NoDate, LargeContainer, NoElement, BadFascn}
+use Rattle.verdicts.specs.declared.Fault.the-variants.{UnknownKind, NoDate, SmallRoom, LargeContainer, NoElement, BadFascn}
 use Rattle.verdicts.specs.declared.Verdict.{Verdict}
 use Rattle.verdicts.specs.declared.Done.{Done}
 use Rattle.kinds.specs.Tables.{table, IsKind, rowAt}
@@ -28,14 +28,15 @@ use Rattle.kinds.specs.declared.Slot.the-variants.{Holds}
 use Rattle.container.specs.Container.{Values, Conforms, largest}
 use Rattle.container.specs.Reading.{values, fault, parsed}
 use Rattle.container.specs.InOrder.{Named}
-use Rattle.sheet.specs.Sheet.{IsSheet}
+use Rattle.sheet.specs.Sheet.{sheetOf, IsSheet}
+use Rattle.sheet.specs.declared.Checked.{Checked}
 use Rattle.elements.specs.Elements.{shape}
 use Rattle.opens.specs.Open.{agencyOf, systemOf, openOf}
 use Rattle.report.specs.Report.{reportText}
 use Rattle.views.specs.Views.{placeOf}
-use Rattle.prosianek.specs.Calls.{Checks, Reads, Writes, Views, Reports, Decodes, Encodes}
+use Rattle.prosianek.specs.Calls.{Judges, Checks, Writes, Views, Reports, Decodes, Encodes}
 use Rattle.printout.specs.Printout.{refusedText, printed, kindText, Asks}
-use Rattle.capi.specs.Calls.{CChecks, CReads, CWrites, CViews, CReports, CDecodes, CEncodes}
+use Rattle.capi.specs.Calls.{CChecks, CWrites, CViews, CReports, CDecodes, CEncodes}
 
 -- ---- Demand 1. "Every byte string, date and room size gets an answer, and every call ends. Bad input is refused by number, without the caller having
 -- checked it. A refusal leaves the lent output room all zeros; a success leaves zeros after the last byte of output."
@@ -56,16 +57,16 @@ pub record Clean (before after : List ℕ) (number size : ℕ) : Type 0 where
 
 pub record Demand1 : Type 0 where
   -- there is an answer, whatever is given and whatever a room held
-  pub check-answers : (kind today : ℕ) (c : List ℕ) → (r : Verdict) × Checks kind today c r × Numbered (r .number)
-  pub read-answers : (kind today : ℕ) (c before : List ℕ) → (after : List ℕ) × (r : Done) × Reads kind today c before after r
+  pub check-answers : (kind today : ℕ) (c before : List ℕ) → (after : List ℕ) × (r : Checked) × Checks kind today c before after r
   pub write-answers : (kind today : ℕ) (s before : List ℕ) → (after : List ℕ) × (r : Done) × Writes kind today s before after r
   pub view-answers : (kind today : ℕ) (c : List ℕ) (tag : ℕ) (at : ℕ × ℕ)
       → (number place : ℕ) × (part : ℕ × ℕ) × (bytes : List ℕ) × Views kind today c tag at number place part bytes × Numbered number
   pub report-answers : (kind today : ℕ) (c before : List ℕ) → (after : List ℕ) × (r : Done) × Reports kind today c before after r
   pub decode-answers : (s : List ℕ) → Bytes s → (r : Decoded) × Decodes s r × Numbered (r .number)
   pub encode-answers : (n : Numbers) (before : List ℕ) → (after : List ℕ) × (number : ℕ) × Encodes n before after number
-  -- and it leaves a lent room clean
-  pub read-clean : (kind today : ℕ) (c before after : List ℕ) (r : Done) → Reads kind today c before after r → Clean before after (r .number) (r .length)
+  -- and it leaves a lent room clean: a check refuses by its verdict, and by the number beside it
+  pub check-clean : (kind today : ℕ) (c before after : List ℕ) (r : Checked) → Checks kind today c before after r
+      → Clean before after (r .verdict .number) (r .length) × Clean before after (r .room) (r .length)
   pub write-clean : (kind today : ℕ) (s before after : List ℕ) (r : Done) → Writes kind today s before after r → Clean before after (r .number) (r .length)
   pub report-clean : (kind today : ℕ) (c before after : List ℕ) (r : Done) → Reports kind today c before after r → Clean before after (r .number) (r .length)
   pub encode-clean : (n : Numbers) (before after : List ℕ) (number : ℕ) → Encodes n before after number
@@ -90,20 +91,32 @@ pub record Shown (c v : List ℕ) (at : ℕ × ℕ) (number place : ℕ) (part :
 
 pub record Demand2 : Type 0 where
   -- "conforms exactly when some values allowed by the rules are written as those bytes"; and there is only one such list of values
-  pub exactly-when : (kind today : ℕ) (c : List ℕ) → Bytes c → (r : Verdict) → Checks kind today c r
-      → (r .number ≡ 0) ↔ ((vs : Values) × Conforms kind today vs c)
+  pub exactly-when : (kind today : ℕ) (c before after : List ℕ) (r : Checked) → Bytes c → Checks kind today c before after r
+      → (r .verdict .number ≡ 0) ↔ ((vs : Values) × Conforms kind today vs c)
   pub only-one : (kind today : ℕ) (c : List ℕ) → Bytes c → (vs ws : Values) → Conforms kind today vs c → Conforms kind today ws c → vs ≡ ws
   -- "otherwise the first broken rule and its place are named"
-  pub first-named : (kind today : ℕ) (c : List ℕ) → Bytes c → (r : Verdict) → Checks kind today c r → (r .number ≡ 0 → ⊥)
-      → (f : Fault) × (r .number ≡ numberOf f) × Named kind today c (found f (r .place))
+  pub first-named : (kind today : ℕ) (c before after : List ℕ) (r : Checked) → Bytes c → Checks kind today c before after r → (r .verdict .number ≡ 0 → ⊥)
+      → (f : Fault) × (r .verdict .number ≡ numberOf f) × Named kind today c (found f (r .verdict .place))
   -- and nothing else can be named: where a rule is the first that is broken, the verdict is its number and its place
-  pub only-first : (kind today : ℕ) (c : List ℕ) → Bytes c → (r : Verdict) → Checks kind today c r → (f : Fault) (place : ℕ) → Named kind today c (found f place)
-      → (r .number ≡ numberOf f) × (r .place ≡ place)
+  pub only-first : (kind today : ℕ) (c before after : List ℕ) (r : Checked) → Bytes c → Checks kind today c before after r → (f : Fault) (place : ℕ)
+      → Named kind today c (found f place) → (r .verdict .number ≡ numberOf f) × (r .verdict .place ≡ place)
+  -- the verdict does not depend on the room: with any two it is the same
+  pub any-room : (kind today : ℕ) (c before₁ before₂ after₁ after₂ : List ℕ) (r₁ r₂ : Checked)
+      → Checks kind today c before₁ after₁ r₁ → Checks kind today c before₂ after₂ r₂ → r₁ .verdict ≡ r₂ .verdict
   -- what is read of some bytes, from which sheets, views and reports are made: their values, exactly where they conform, or else the first broken rule
   pub parsed-values : (kind today : ℕ) (c : List ℕ) → Bytes c → (vs : Values) → (parsed kind today c ≡ values vs) ↔ Conforms kind today vs c
   pub parsed-fault : (kind today : ℕ) (c : List ℕ) → Bytes c → (f : Fault) (place : ℕ) → (parsed kind today c ≡ fault (found f place)) ↔ Named kind today c (found f place)
+  -- "3 for room is a field beside a verdict of 0 only": it is 3 exactly where the container conforms and the room is under the sheet's length, else 0
+  pub room-3 : (kind today : ℕ) (c before after : List ℕ) (r : Checked) → Bytes c → Checks kind today c before after r
+      → (r .room ≡ numberOf SmallRoom) ↔ ((vs : Values) × Conforms kind today vs c × (length before < length (sheetOf vs)))
+  pub room-0-or-3 : (kind today : ℕ) (c before after : List ℕ) (r : Checked) → Checks kind today c before after r → (r .room ≡ 0) ⊎ (r .room ≡ numberOf SmallRoom)
+  -- "With no room wanted, a call with an empty sheet room still gives the verdict beside the 3."
+  pub empty-room : (kind today : ℕ) (c after : List ℕ) (r : Checked) → Bytes c → Checks kind today c [] after r → r .verdict .number ≡ 0 → r .room ≡ numberOf SmallRoom
+  -- no sheet beside a broken rule or a 3: its length is 0, and the room all zeros
+  pub no-sheet : (kind today : ℕ) (c before after : List ℕ) (r : Checked) → Checks kind today c before after r
+      → (r .verdict .number ≡ 0 → ⊥) ⊎ (r .room ≡ 0 → ⊥) → (r .length ≡ 0) × (after ≡ zeros (length before))
   -- a sheet that was read holds the container's values, and a container that was written has the sheet's
-  pub read-values : (kind today : ℕ) (c before after : List ℕ) (r : Done) → Bytes c → Reads kind today c before after r → r .number ≡ 0
+  pub sheet-values : (kind today : ℕ) (c before after : List ℕ) (r : Checked) → Bytes c → Checks kind today c before after r → r .verdict .number ≡ 0 → r .room ≡ 0
       → (vs : Values) × Conforms kind today vs c × IsSheet (table kind) vs (take (r .length) after)
   pub write-values : (kind today : ℕ) (s before after : List ℕ) (r : Done) → Bytes s → Writes kind today s before after r → r .number ≡ 0
       → (vs : Values) × IsSheet (table kind) vs s × Conforms kind today vs (take (r .length) after)
@@ -111,16 +124,15 @@ pub record Demand2 : Type 0 where
   pub accepted-when : (kind today : ℕ) (s before after : List ℕ) (r : Done) → Bytes s → Writes kind today s before after r
       → (r .number ≡ 0) ↔ ((vs : Values) × (c : List ℕ) × IsSheet (table kind) vs s × Conforms kind today vs c × (length c ≤ length before))
   -- a room with six bytes more than the container takes its sheet, and so one of 32,774 takes any
-  pub room-for-sheet : (kind today : ℕ) (c : List ℕ) → Bytes c → (vs : Values) → Conforms kind today vs c
-      → (before after : List ℕ) (r : Done) → Reads kind today c before after r → length c + 6 ≤ length before → r .number ≡ 0
+  pub room-for-sheet : (kind today : ℕ) (c before after : List ℕ) (r : Checked) → Bytes c → Checks kind today c before after r → length c + 6 ≤ length before → r .room ≡ 0
   -- "Writing the values that were read gives the container back byte for byte"
-  pub read-then-write : (kind today : ℕ) (c before after : List ℕ) (r : Done) → Bytes c → Reads kind today c before after r → r .number ≡ 0
+  pub read-then-write : (kind today : ℕ) (c before after : List ℕ) (r : Checked) → Bytes c → Checks kind today c before after r → r .verdict .number ≡ 0 → r .room ≡ 0
       → (before₂ after₂ : List ℕ) (r₂ : Done) → Writes kind today (take (r .length) after) before₂ after₂ r₂ → length c ≤ length before₂
       → (r₂ .number ≡ 0) × (take (r₂ .length) after₂ ≡ c)
-  -- "and reading what was written gives the values back"
+  -- "and reading what was written gives the values back": what was written conforms, whatever the room, and one that suffices gets the sheet
   pub write-then-read : (kind today : ℕ) (s before after : List ℕ) (r : Done) → Bytes s → Writes kind today s before after r → r .number ≡ 0
-      → (before₂ after₂ : List ℕ) (r₂ : Done) → Reads kind today (take (r .length) after) before₂ after₂ r₂ → length s ≤ length before₂
-      → (r₂ .number ≡ 0) × (take (r₂ .length) after₂ ≡ s)
+      → (before₂ after₂ : List ℕ) (r₂ : Checked) → Checks kind today (take (r .length) after) before₂ after₂ r₂
+      → (r₂ .verdict .number ≡ 0) × (length s ≤ length before₂ → (r₂ .room ≡ 0) × (take (r₂ .length) after₂ ≡ s))
   -- a view of a row, whose tag is t, shows the row's value where it stands; 6 and no bytes for an absent row and for a tag of no row
   pub view-value : (kind today : ℕ) (c : List ℕ) → Bytes c → (vs : Values) → Conforms kind today vs c → (i t : ℕ) (o : Bool) → rowAt kind i ≡ Holds t o
       → (v : List ℕ) → getD vs i none ≡ some v → (at : ℕ × ℕ) (number place : ℕ) (part : ℕ × ℕ) (bytes : List ℕ) → Views kind today c t at number place part bytes
@@ -153,7 +165,7 @@ pub record Demand3 : Type 0 where
       → shape vs ≡ shape ws → openOf kind vs ≡ openOf kind ws
       → (before₁ before₂ after₁ after₂ : List ℕ) (r₁ r₂ : Done) → length before₁ ≡ length before₂
       → Reports kind today c before₁ after₁ r₁ → Reports kind today d before₂ after₂ r₂ → (r₁ ≡ r₂) × (after₁ ≡ after₂)
-  pub nothing-of-refused : (kind today : ℕ) (c d : List ℕ) (v : Verdict) → Checks kind today c v → Checks kind today d v → (v .number ≡ 0 → ⊥) → length c ≡ length d
+  pub nothing-of-refused : (kind today : ℕ) (c d : List ℕ) (v : Verdict) → Judges kind today c v → Judges kind today d v → (v .number ≡ 0 → ⊥) → length c ≡ length d
       → (before₁ before₂ after₁ after₂ : List ℕ) (r₁ r₂ : Done) → length before₁ ≡ length before₂
       → Reports kind today c before₁ after₁ r₁ → Reports kind today d before₂ after₂ r₂ → (r₁ ≡ r₂) × (after₁ ≡ after₂)
   -- the reports are what was written, in rooms of any two lengths
@@ -184,7 +196,7 @@ pub record AtTheDesk : Type 0 where
   pub nothing-personal : (kind today : ℕ) (vs ws : Values) (c d : List ℕ) → Bytes c → Bytes d → Conforms kind today vs c → Conforms kind today ws d
       → shape vs ≡ shape ws → openOf kind vs ≡ openOf kind ws → (s u : List ℕ) → Asks s kind today c → Asks u kind today d → printed s ≡ printed u
   -- "Two refused containers of one kind and length, same date, same broken rule at the same place, get the same report."
-  pub nothing-of-refused : (kind today : ℕ) (c d : List ℕ) (v : Verdict) → Checks kind today c v → Checks kind today d v → (v .number ≡ 0 → ⊥) → length c ≡ length d
+  pub nothing-of-refused : (kind today : ℕ) (c d : List ℕ) (v : Verdict) → Judges kind today c v → Judges kind today d v → (v .number ≡ 0 → ⊥) → length c ≡ length d
       → (s u : List ℕ) → Asks s kind today c → Asks u kind today d → printed s ≡ printed u
   -- "Conversely, two conforming containers with equal reports have the same kind, tags, lengths and open values."
   pub conversely : (k t l u : ℕ) (vs ws : Values) (c d : List ℕ) → Bytes c → Bytes d → Conforms k t vs c → Conforms l u ws d
@@ -198,9 +210,8 @@ pub record AtTheDesk : Type 0 where
 -- name of its reference is no value, and is left open.)
 
 pub record Settled : Type 0 where
-  pub one-check : (kind today : ℕ) (c : List ℕ) (r₁ r₂ : Verdict) → Checks kind today c r₁ → Checks kind today c r₂ → r₁ ≡ r₂
-  pub one-read : (kind today : ℕ) (c before₁ before₂ after₁ after₂ : List ℕ) (r₁ r₂ : Done) → length before₁ ≡ length before₂
-      → Reads kind today c before₁ after₁ r₁ → Reads kind today c before₂ after₂ r₂ → (r₁ ≡ r₂) × (after₁ ≡ after₂)
+  pub one-check : (kind today : ℕ) (c before₁ before₂ after₁ after₂ : List ℕ) (r₁ r₂ : Checked) → length before₁ ≡ length before₂
+      → Checks kind today c before₁ after₁ r₁ → Checks kind today c before₂ after₂ r₂ → (r₁ ≡ r₂) × (after₁ ≡ after₂)
   pub one-write : (kind today : ℕ) (s before₁ before₂ after₁ after₂ : List ℕ) (r₁ r₂ : Done) → length before₁ ≡ length before₂
       → Writes kind today s before₁ after₁ r₁ → Writes kind today s before₂ after₂ r₂ → (r₁ ≡ r₂) × (after₁ ≡ after₂)
   pub one-view : (kind today : ℕ) (c : List ℕ) (tag : ℕ) (at : ℕ × ℕ) (n₁ n₂ p₁ p₂ : ℕ) (part₁ part₂ : ℕ × ℕ) (bytes₁ bytes₂ : List ℕ)
@@ -214,9 +225,9 @@ pub record Settled : Type 0 where
 
 -- the same of the functions for C, which answer a number and store the others
 pub record SettledForC : Type 0 where
-  pub one-check : (kind today : ℕ) (c : List ℕ) (n₁ n₂ p₁ p₂ : ℕ) → CChecks kind today c n₁ p₁ → CChecks kind today c n₂ p₂ → (n₁ ≡ n₂) × (p₁ ≡ p₂)
-  pub one-read : (kind today : ℕ) (c before₁ before₂ after₁ after₂ : List ℕ) (n₁ n₂ p₁ p₂ l₁ l₂ : ℕ) → length before₁ ≡ length before₂
-      → CReads kind today c before₁ after₁ n₁ p₁ l₁ → CReads kind today c before₂ after₂ n₂ p₂ l₂ → (n₁ ≡ n₂) × (p₁ ≡ p₂) × (l₁ ≡ l₂) × (after₁ ≡ after₂)
+  pub one-check : (kind today : ℕ) (c before₁ before₂ after₁ after₂ : List ℕ) (n₁ n₂ p₁ p₂ m₁ m₂ l₁ l₂ : ℕ) → length before₁ ≡ length before₂
+      → CChecks kind today c before₁ after₁ n₁ p₁ m₁ l₁ → CChecks kind today c before₂ after₂ n₂ p₂ m₂ l₂
+      → (n₁ ≡ n₂) × (p₁ ≡ p₂) × (m₁ ≡ m₂) × (l₁ ≡ l₂) × (after₁ ≡ after₂)
   pub one-write : (kind today : ℕ) (s before₁ before₂ after₁ after₂ : List ℕ) (n₁ n₂ p₁ p₂ l₁ l₂ : ℕ) → length before₁ ≡ length before₂
       → CWrites kind today s before₁ after₁ n₁ p₁ l₁ → CWrites kind today s before₂ after₂ n₂ p₂ l₂ → (n₁ ≡ n₂) × (p₁ ≡ p₂) × (l₁ ≡ l₂) × (after₁ ≡ after₂)
   pub one-view : (kind today : ℕ) (c : List ℕ) (tag n₁ n₂ p₁ p₂ o₁ o₂ l₁ l₂ : ℕ)

@@ -1,9 +1,10 @@
--- The examples of document 01, P1 to P14, those of request 2026-04, and further rows, as one table: what each row says, over the rules themselves, and the table.
+-- The examples of document 01, P1 to P14, those of requests 2026-04 and 2026-13, and further rows, as one table: what each row says, over the rules themselves, and the table.
 use Prim.Native.Nat.{ℕ, zero, suc}
 use mathlib.Core.Path.{_≡_}
 use mathlib.Core.Option.{Option, none, some}
 use mathlib.Core.List.{List, [], _∷_, _++_}
 use lib.ListN.{length, replicate}
+use Rattle.laws.specs.Room.{filled}
 use Rattle.fascn.specs.Fascn.{IsFascnOf, IsFascn}
 use Rattle.fascn.specs.declared.Numbers.{Numbers}
 use Rattle.lengths.specs.Length.{Spells}
@@ -13,6 +14,8 @@ use Rattle.verdicts.specs.declared.Fault.{Fault}
 use Rattle.rules.specs.Rules.{application}
 use Rattle.container.specs.Container.{Values, container, Conforms}
 use Rattle.container.specs.InOrder.{Named}
+use Rattle.sheet.specs.declared.Checked.{Checked}
+use Rattle.prosianek.specs.Calls.{Checks}
 
 -- ---- what a row of the table says
 
@@ -27,6 +30,7 @@ pub data Example : Type 0 where
   late : ℕ → ℕ → Example
   conforms : ℕ → List ℕ → Example
   breaks : ℕ → List ℕ → ℕ → ℕ → Example
+  checks : ℕ → List ℕ → ℕ → ℕ → ℕ → ℕ → List ℕ → Example
 
 -- "With today 20260301"
 abbrev pub today : ℕ
@@ -43,6 +47,9 @@ Holds (kept t e) = InWindow t e  -- under the date t the expiry e is kept
 Holds (late t e) = InWindow t e → ⊥
 Holds (conforms kind c) = (vs : Values) × Conforms kind today vs c  -- there are values that are allowed and written as these bytes
 Holds (breaks kind c number place) = (f : Fault) × (number ≡ numberOf f) × Named kind today c (found f place)  -- the first broken rule has this number and place
+-- a check with a room of so many bytes, whatever they were, answers this number and place with this number beside them, and leaves this sheet and zeros
+Holds (checks kind c room number place short sheet) = (before after : List ℕ) (r : Checked) → length before ≡ room → Checks kind today c before after r
+    → (r ≡ record { verdict = record { number = number; place = place }; room = short; length = length sheet }) × (after ≡ filled sheet room)
 
 abbrev pub All : List Example → Type 0
 All [] = Unit {0}
@@ -70,7 +77,10 @@ uuid = replicate 6 1 ++ (0x40 ∷ 0 ∷ 0x80 ∷ replicate 7 1)
 abbrev expiry : List ℕ
 expiry = 0x32 ∷ 0x30 ∷ 0x33 ∷ 0x30 ∷ 0x30 ∷ 0x31 ∷ 0x33 ∷ 0x31 ∷ []
 
--- case R; and a CHUID with each optional element
+-- case R, and its sheet; and a CHUID with each optional element
+abbrev chuidSheet : List ℕ
+chuidSheet = 0 ∷ 0 ∷ 0 ∷ 26 ∷ (p1 0xEB ++ (0 ∷ 0 ∷ 0 ∷ 0 ∷ 0 ∷ 17 ∷ (uuid ++ (0 ∷ 9 ∷ (expiry ++ (0 ∷ 0 ∷ 0 ∷ 1 ∷ 0 ∷ 1 ∷ []))))))
+
 abbrev chuid : List ℕ
 chuid = container 2 (none ∷ some (p1 0xEB) ∷ none ∷ none ∷ some uuid ∷ some expiry ∷ none ∷ some [] ∷ some [] ∷ [])
 
@@ -207,4 +217,16 @@ examples =
     ∷ breaks 9 (certified 9 (three 0x30 null) 0x01 none) 20 12
     ∷ conforms 10 (certified 10 (three 0x30 null) 0x00 (some (replicate 38 0x41)))
     ∷ breaks 10 (certified 10 (three 0x30 null) 0x00 (some (replicate 39 0x41))) 16 15
+    -- 2026-13: case R with a room that is just enough, with one byte more and one less, and with none: 3 beside a verdict of 0
+    ∷ checks 2 chuid 67 0 0 0 chuidSheet
+    ∷ checks 2 chuid 68 0 0 0 chuidSheet
+    ∷ checks 2 chuid 66 0 0 3 []
+    ∷ checks 2 chuid 0 0 0 3 []
+    -- P13's two rows; P14, with no room, and with room for its sheet: no 3 beside a broken rule, and nothing is written
+    ∷ checks 3 (discovery 0x40) 17 0 0 0 (0 ∷ 12 ∷ (application ++ (0 ∷ 3 ∷ 0x40 ∷ 0x00 ∷ [])))
+    ∷ checks 3 (discovery 0x60) 0 20 15 0 []
+    ∷ checks 3 (discovery 0x60) 17 20 15 0 []
+    -- no such kind, and no container
+    ∷ checks 12 chuid 0 1 0 0 []
+    ∷ checks 2 [] 67 10 0 0 []
     ∷ []

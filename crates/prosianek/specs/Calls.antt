@@ -1,4 +1,4 @@
--- The seven calls of the door. Each record is the whole contract of one call: what it answers and what it leaves, on every input. Nothing is asked of
+-- The six calls of the door. Each record is the whole contract of one call: what it answers and what it leaves, on every input. Nothing is asked of
 -- a caller, and nothing of the answer is left open (`promises`, `Settled`).
 use Prim.Native.Nat.{ℕ}
 use mathlib.Core.Logic.{_⊎_}
@@ -13,18 +13,21 @@ use Rattle.verdicts.specs.Output.{Leaves}
 use Rattle.verdicts.specs.declared.Verdict.{Verdict}
 use Rattle.verdicts.specs.declared.Done.{Done}
 use Rattle.container.specs.Reading.{verdict}
-use Rattle.sheet.specs.Calls.{readOutput}
+use Rattle.sheet.specs.Calls.{sheetOutput, beside}
+use Rattle.sheet.specs.declared.Checked.{Checked}
 use Rattle.writing.specs.Writing.{writeOutput}
 use Rattle.views.specs.Views.{viewed, Answers}
 use Rattle.report.specs.Calls.{reportOutput}
 
--- "Check: 1, 2, 4, then outer 10, 11, 12 (place 0), then each element": the verdict r of the bytes c
-pub record Checks (kind today : ℕ) (c : List ℕ) (r : Verdict) : Type 0 where
-  pub answer : r ≡ verdict kind today c
+-- "Check: 1, 2, 4, then outer 10, 11, 12 (place 0), then each element": the verdict of the bytes c. No room has a part in it
+pub record Judges (kind today : ℕ) (c : List ℕ) (v : Verdict) : Type 0 where
+  pub answer : v ≡ verdict kind today c
 
--- "Read: check, then 3": the sheet of the container c goes into a room that was `before` and is left as `after`
-pub record Reads (kind today : ℕ) (c before after : List ℕ) (r : Done) : Type 0 where
-  pub leaves : Leaves (readOutput kind today c (length before)) before after r
+-- 2026-13, "one that gives the verdict and, when it is 0 and the room suffices, the sheet": beside the verdict of the container c its sheet goes into a room
+-- that was `before` and is left as `after`; or 3, "a field beside a verdict of 0 only"
+pub record Checks (kind today : ℕ) (c before after : List ℕ) (r : Checked) : Type 0 where
+  pub judges : Judges kind today c (r .verdict)
+  pub leaves : Leaves (sheetOutput kind today c (length before)) before after (beside r)
 
 -- "Write: 1, 2, 5, then row by row 15, 16 and the value's rules, with the place of the row's count, then 4, 3": the container of the sheet s
 pub record Writes (kind today : ℕ) (s before after : List ℕ) (r : Done) : Type 0 where

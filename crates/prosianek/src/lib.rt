@@ -1,26 +1,20 @@
-// The door: the seven calls, and nothing else. Each contract is one record of specs/Calls.antt.
+// The door: the six calls, and nothing else. Each contract is one record of specs/Calls.antt.
 //
 // kind is 1 CCC, 2 CHUID, 3 DISCOVERY, 4 PRINTED, 5 SECURITY, 6 FINGERS, 7 FACE, 8 PIVAUTH, 9 DIGSIG, 10 KEYMGMT, 11 CARDAUTH;
 // today is a date as an eight-digit number.
 // Every input gets an answer. A room that is lent holds the output afterwards, and zeros: nothing of what was there.
-ghost use Rattle.prosianek.specs.Calls.{Checks, Reads, Writes, Views, Reports, Decodes, Encodes};
+ghost use Rattle.prosianek.specs.Calls.{Checks, Writes, Views, Reports, Decodes, Encodes};
 use fascn::Decoded;
 use fascn::Numbers;
+use sheet::Checked;
 use verdicts::Done;
-use verdicts::Verdict;
 
-// Whether a container conforms; or the first broken rule and its place.
-pub fn check(kind: u64, today: u64, container: &[u8]) -> Verdict
-    ensures { λ r. ⌜ Checks kind today (now (container .entry)) r ⌝ }
+// Whether a container conforms, or the first broken rule and its place; and the value sheet of one that does, where the room
+// suffices. With an empty room it gives the verdict alone, and 3 beside a verdict of 0.
+pub fn check(kind: u64, today: u64, container: &[u8], sheet: &mut [u8]) -> Checked
+    ensures { λ r. ⌜ Checks kind today (now (container .entry)) (now (sheet .entry)) (now (sheet .exit)) r ⌝ }
 {
-    container::check(kind, today, container)
-}
-
-// The value sheet of a container.
-pub fn read(kind: u64, today: u64, container: &[u8], sheet: &mut [u8]) -> Done
-    ensures { λ r. ⌜ Reads kind today (now (container .entry)) (now (sheet .entry)) (now (sheet .exit)) r ⌝ }
-{
-    sheet::read(kind, today, container, sheet)
+    sheet::check(kind, today, container, sheet)
 }
 
 // The container of a value sheet.

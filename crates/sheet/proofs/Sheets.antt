@@ -1,5 +1,5 @@
 -- Sheets: how long they are, what they say of a map, and that the values of a container that conforms have one. Assumes nothing.
-use Prim.Native.Nat.{ℕ, _+_, _-_, _≤_, _<_}
+use Prim.Native.Nat.{ℕ, zero, suc, _+_, _-_, _≤_, _<_}
 use mathlib.Core.Path.{_≡_, refl, ap, _∙_}
 use mathlib.Core.Option.{Option, none, some}
 use mathlib.Core.List.{List, [], _∷_, _++_}
@@ -12,9 +12,10 @@ use Rattle.laws.proofs.Layouts.{part-long}
 use Rattle.laws.proofs.Bases.{below-append}
 use Rattle.lengths.specs.Length.{lengthBytes}
 use Rattle.kinds.specs.Tables.{Table, table}
+use Rattle.kinds.proofs.Every.{some-rows}
 use Rattle.container.specs.Container.{Values, tagBytes, encode, Allowed, Conforms}
 use Rattle.container.proofs.Exact.{bytes-front, bytes-back}
-use Rattle.container.specs.Map.{rowValues}
+use Rattle.container.specs.Map.{rowValue, rowValues}
 use Rattle.container.proofs.Lying.{next-row}
 use Rattle.sheet.specs.Sheet.{count, section, sheetOf, Sheeted, IsSheet}
 
@@ -31,6 +32,11 @@ section-length (some v) = length-append (count (length v + 1)) v
 pub sheet-length : (o : Option (List ℕ)) (vs : Values) → length (sheetOf (o ∷ vs)) ≡ sized o + length (sheetOf vs)
 unfolding sheetOf
 sheet-length o vs = length-append (section o) (sheetOf vs) ∙ ap (λ (n : ℕ). n + length (sheetOf vs)) (section-length o)
+
+-- no sheet of a row is empty
+pub some-sheet : (o : Option (List ℕ)) (vs : Values) → 0 < length (sheetOf (o ∷ vs))
+some-sheet none vs = omega (arith, sheet-length none vs)
+some-sheet (some v) vs = omega (arith, sheet-length (some v) vs)
 
 -- ---- the sheet of what a map shows, by the row that is next
 
@@ -52,6 +58,12 @@ module _ (starts ends c : List ℕ) (n i : ℕ) (h : i < n) where
       let v = part c (getD starts i 0) (getD ends i 0 - getD starts i 0) in
       let l : length v ≡ getD ends i 0 - getD starts i 0 = part-long c (getD starts i 0) (getD ends i 0 - getD starts i 0) (omega arith) in
       omega (arith, ap length (value-next e), length-append (section (some v)) (sheetOf rest), section-length (some v), l)
+
+-- no room of no bytes takes the sheet of a row or more
+pub some-shown : (starts ends c : List ℕ) (n : ℕ) → 0 < n → 0 < length (sheetOf (rowValues starts ends c n 0))
+unfolding rowValues
+some-shown starts ends c zero h = absurd (omega arith)
+some-shown starts ends c (suc n) h = some-sheet (rowValue starts ends c 0) (rowValues starts ends c n 1)
 
 -- no row is left, or all are
 pub none-left : (starts ends c : List ℕ) (n i : ℕ) → n ≤ i → sheetOf (rowValues starts ends c (n - i) i) ≡ []
@@ -100,6 +112,15 @@ module _ (kind today : ℕ) (vs : Values) (c : List ℕ) (h : Conforms kind toda
 
   pub conforming-sheet : IsSheet (table kind) vs (sheetOf vs)
   conforming-sheet = record { sections = conforming-sheeted; written = refl }
+
+  -- which is not empty: a kind has rows
+  pub conforming-some : 0 < length (sheetOf vs)
+  conforming-some = go (table kind) vs (h .allowed) (some-rows kind (h .kind-is))
+    where
+      go : (rs : Table) (vs : Values) → Allowed today rs vs → 0 < length rs → 0 < length (sheetOf vs)
+      go [] vs a l = absurd (omega arith)
+      go (r ∷ rs) [] a l = absurd a
+      go (r ∷ rs) (o ∷ vs) a l = some-sheet o vs
 
   -- and it is bytes
   pub conforming-bytes : Bytes c → Bytes (sheetOf vs)

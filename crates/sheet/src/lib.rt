@@ -1,20 +1,32 @@
 // The value sheet: "a section for each table row in order: a two-byte big-endian count, 0 for absent, else n + 1, then n
 // bytes."
 ghost use mathlib.Core.Path.{_≡_};
+ghost use mathlib.Core.Bool.{cond};
 ghost use mathlib.Core.Option.{some};
-ghost use Prim.Native.Nat.{_≤_};
+ghost use Prim.Native.Nat.{_<_, _≤_};
+ghost use lib.Dec.{ltb};
 ghost use lib.ListN.{length};
 ghost use Rattle.laws.specs.Room.{laid, Put};
 ghost use Rattle.verdicts.specs.Output.{Leaves};
 ghost use Rattle.kinds.specs.Tables.{table};
 ghost use Rattle.container.specs.Container.{largest};
 ghost use Rattle.container.specs.Map.{Inside, rowValues};
+ghost use Rattle.container.specs.Reading.{verdict};
 ghost use Rattle.sheet.specs.Sheet.{count, section, sheetOf};
-ghost use Rattle.sheet.specs.Calls.{readOutput};
+ghost use Rattle.sheet.specs.Calls.{roomy, sheetOutput, beside};
 use container::Map;
 use verdicts::Done;
 use verdicts::Fault;
 use verdicts::Outcome;
+use verdicts::Verdict;
+
+// What a check answers: the verdict; 3 where it is 0 and the lent room is under the sheet's length, else 0; and how long the
+// sheet is that was written, 0 where none was.
+pub struct Checked {
+    pub verdict: Verdict,
+    pub room: u64,
+    pub length: u64,
+}
 
 // A count in two bytes, big-endian.
 fn put_count(n: usize, out: &mut [u8]) -> usize
@@ -60,26 +72,59 @@ fn put_sheet(kind: u64, c: &[u8], map: Map, out: &mut [u8]) -> usize
     size
 }
 
-// "Read: check, then 3." The sheet's bytes, and zeros after them: 0; or the fault of the check, or 3, and zeros alone. Whether
-// the room is too small shows once the sheet is in it as far as it goes, and only what the sheet leaves of the room is cleared.
-pub fn read(kind: u64, today: u64, container: &[u8], sheet: &mut [u8]) -> Done
-    ensures { λ r. ⌜ Leaves (readOutput kind today (now (container .entry)) (length (now (sheet .entry)))) (now (sheet .entry)) (now (sheet .exit)) r ⌝ }
+// How much stays of a sheet that was put into a room as far as it goes: all of it, or nothing where the room is too small.
+fn kept(size: usize, room: usize) -> usize
+    ensures { λ r. ⌜ r ≡ cond (ltb room size) 0 size ⌝ }
+{
+    if room < size {
+        return 0;
+    }
+    size
+}
+
+// The sheet of what the map shows, and zeros behind it: 0 and its length; or 3 and zeros alone. An empty room asks for no sheet:
+// it is too small for any, and nothing is written.
+fn give_sheet(kind: u64, c: &[u8], map: Map, out: &mut [u8]) -> Done
+    requires { ⌜ Inside (map .from) (map .to) (length (now c)) × (length (now c) ≤ largest) × (0 < length (table kind)) ⌝ }
+    ensures { λ r. ⌜ Leaves (roomy (sheetOf (rowValues (map .from) (map .to) (now (c .entry)) (length (table kind)) 0)) (length (now (out .entry)))) (now (out .entry)) (now (out .exit)) r ⌝ }
+{
+    let room = out.len();
+    if room == 0 {
+        return verdicts::refused(verdicts::found(Fault::SmallRoom, 0));
+    }
+    let size = kept(put_sheet(kind, c, map, out), room);
+    room::clear(&mut out[size..]);
+    if size == 0 {
+        return verdicts::refused(verdicts::found(Fault::SmallRoom, 0));
+    }
+    verdicts::wrote(size)
+}
+
+// The verdict, and beside a verdict of 0 the sheet, by one walk. A broken rule leaves zeros alone, and whether the room would have
+// sufficed is not asked.
+pub fn check(kind: u64, today: u64, container: &[u8], sheet: &mut [u8]) -> Checked
+    ensures { λ r. ⌜ r .verdict ≡ verdict kind today (now (container .entry)) ⌝ }
+    ensures { λ r. ⌜ Leaves (sheetOutput kind today (now (container .entry)) (length (now (sheet .entry)))) (now (sheet .entry)) (now (sheet .exit)) (beside r) ⌝ }
 {
     let map = container::judge(kind, today, container);
     let outcome = map.outcome;
+    let verdict = verdicts::verdict_of(outcome);
     match outcome {
-        Outcome::Broken(f) => {
+        Outcome::Broken(_) => {
             room::clear(sheet);
-            verdicts::refused(f)
+            Checked {
+                verdict: verdict,
+                room: 0,
+                length: 0,
+            }
         }
         Outcome::Fine => {
-            let size = put_sheet(kind, container, map, sheet);
-            if sheet.len() < size {
-                room::clear(sheet);
-                return verdicts::refused(verdicts::found(Fault::SmallRoom, 0));
+            let given = give_sheet(kind, container, map, sheet);
+            Checked {
+                verdict: verdict,
+                room: given.number,
+                length: given.length,
             }
-            room::clear(&mut sheet[size..]);
-            verdicts::wrote(size)
         }
     }
 }

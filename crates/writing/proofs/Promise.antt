@@ -9,7 +9,7 @@ use mathlib.Core.List.{List, [], _∷_}
 use native.Mathlib.Omega.{arith}
 use lib.Dec.{ltb, leb}
 use lib.ListN.{length}
-use borrow.Author.Tests.{le-ltb, le-leb, leb-true, ltb-false}
+use borrow.Author.Tests.{le-leb, leb-true, ltb-false}
 use Rattle.laws.specs.Bytes.{Bytes}
 use Rattle.laws.proofs.Cases.{which}
 use Rattle.dates.specs.Date.{isDate}
@@ -23,12 +23,13 @@ use Rattle.verdicts.specs.declared.Ruling.the-variants.{Kept, Breaks}
 use Rattle.verdicts.specs.declared.Outcome.{Outcome}
 use Rattle.verdicts.specs.declared.Outcome.the-variants.{Fine, Broken}
 use Rattle.container.specs.Container.{Values, container, Allowed, largest, Conforms}
-use Rattle.container.specs.Reading.{Parsed, values, fault, parsed}
+use Rattle.container.specs.Reading.{values, parsed}
 use Rattle.container.proofs.One.{good-fits, fits-good}
-use Rattle.container.proofs.Promise.{kind-exact, exact, conforms-parsed}
+use Rattle.container.proofs.Promise.{kind-exact, conforms-parsed}
 use Rattle.sheet.specs.Sheet.{sheetOf, Sheeted, IsSheet}
-use Rattle.sheet.specs.Calls.{roomy, readOf, readOutput}
+use Rattle.sheet.specs.Calls.{roomy}
 use Rattle.sheet.proofs.Sheets.{conforming-sheet, conforming-bytes}
+use Rattle.sheet.proofs.Answers.{roomy-fits}
 use Rattle.sections.specs.Opened.{opened, keptOr, judged}
 use Rattle.writing.specs.Writing.{sizedOut, judgedOut, openedOut, writeOutput}
 use Rattle.writing.proofs.Sheets.{opened-exact, AllBytes, sheet-values, container-bytes}
@@ -82,9 +83,6 @@ roomy-is t room c e =
       | inl l ↦ absurd (no-text (rw l at e))
       | inr l ↦ let q : text t ≡ text c = rw l at e in (cc, ltb-false _ _ l)
     ]
-
-roomy-fits : (t : List ℕ) (room : ℕ) → length t ≤ room → roomy t room ≡ text t
-roomy-fits t room h = rw (le-ltb _ _ h)
 
 sized-is : (t : List ℕ) (room : ℕ) (c : List ℕ) → sizedOut t room ≡ text c → (t ≡ c) × (length t ≤ largest) × (length t ≤ room)
 sized-is t room c e =
@@ -167,29 +165,14 @@ written-bytes kind today s room b c e =
 
 -- ---- the round trips
 
-read-is : (p : Parsed (List ℕ)) (room : ℕ) (s : List ℕ) → readOf p room ≡ text s → (vs : Values) × (p ≡ values vs) × (sheetOf vs ≡ s)
-read-is (values vs) room s e = (vs, refl, roomy-is (sheetOf vs) room s e .0)
-read-is (fault f) room s e = absurd (no-text e)
+-- the sheet of a container's values is written as that container
+pub read-write : (kind today : ℕ) (c : List ℕ) → Bytes c → (vs : Values) → Conforms kind today vs c → (room : ℕ) → length c ≤ room → writeOutput kind today (sheetOf vs) room ≡ text c
+read-write kind today c b vs f room h =
+    accepted kind today (sheetOf vs) room (conforming-bytes kind today vs c f b) c .1 (vs, conforming-sheet kind today vs c f, f, h)
 
--- what is read of a container is the sheet of its values
-pub read-values : (kind today : ℕ) (c : List ℕ) → Bytes c → (room : ℕ) (s : List ℕ) → readOutput kind today c room ≡ text s
-    → (vs : Values) × Conforms kind today vs c × IsSheet (table kind) vs s
-unfolding readOutput
-read-values kind today c b room s e =
-    let r = read-is (parsed kind today c) room s e in
-    let f : Conforms kind today (r .0) c = exact kind today c b (r .0) .0 (r .1) in
-    (r .0, f, rw (r .2) at (conforming-sheet kind today (r .0) c f))
-
--- and is written as that container
-pub read-write : (kind today : ℕ) (c : List ℕ) → Bytes c → (room₁ room₂ : ℕ) (s : List ℕ) → readOutput kind today c room₁ ≡ text s → length c ≤ room₂ → writeOutput kind today s room₂ ≡ text c
-read-write kind today c b room₁ room₂ s e h =
-    let (vs, f, i) = read-values kind today c b room₁ s e in
-    accepted kind today s room₂ (rw (← i .written) at (conforming-bytes kind today vs c f b)) c .1 (vs, i, f, h)
-
--- what is written of a sheet is read as that sheet
-pub write-read : (kind today : ℕ) (s : List ℕ) → Bytes s → (room₁ room₂ : ℕ) (c : List ℕ) → writeOutput kind today s room₁ ≡ text c → length s ≤ room₂ → readOutput kind today c room₂ ≡ text s
-unfolding readOutput
-write-read kind today s b room₁ room₂ c e h =
-    let a = accepted kind today s room₁ b c .0 e in
-    let p : parsed kind today c ≡ values (a .0) = conforms-parsed kind today c (written-bytes kind today s room₁ b c e) (a .0) (a .2) in
-    rw (p, ← a .1 .written) (roomy-fits s room₂ h)
+-- and what is written of a sheet is read as the values that it is the sheet of
+pub write-read : (kind today : ℕ) (s : List ℕ) → Bytes s → (room : ℕ) (c : List ℕ) → writeOutput kind today s room ≡ text c
+    → (vs : Values) × (parsed kind today c ≡ values vs) × (s ≡ sheetOf vs)
+write-read kind today s b room c e =
+    let (vs, i, f, h) = accepted kind today s room b c .0 e in
+    (vs, conforms-parsed kind today c (written-bytes kind today s room b c e) vs f, i .written)
