@@ -2,7 +2,7 @@
 use mathlib.Core.Path.{_≡_, refl, sym, ap, _∙_}
 use mathlib.Core.Logic.{_⊎_, inl, inr, ⊎-elim}
 use mathlib.Core.List.{List, [], _∷_, _++_, append-nil, append-assoc}
-use Prim.Native.Nat.{ℕ, zero, suc, _+_, _-_, _≤_, suc-le-suc}
+use Prim.Native.Nat.{ℕ, zero, suc, _+_, _-_, _≤_, _<_, suc-le-suc}
 use native.Mathlib.Nat.{not-suc-le-zero, zero-add, suc-add, sub-zero, suc-sub-suc, le-of-suc-le-suc}
 use native.Mathlib.Omega.{arith}
 use lib.ListN.{length, set, take, drop, drop-of-length-le, length-drop, length-append, length-replicate}
@@ -47,6 +47,17 @@ byte-out b (y ∷ d) h = absurd (omega arith)
 pub byte-in : (b : ℕ) (d : List ℕ) → (length d ≡ 0 → ⊥) → Put (b ∷ []) d (set d 0 b) 1
 byte-in b [] h = absurd (h refl)
 byte-in b (y ∷ d) h = record { room = refl; count = refl; inside = omega arith }
+
+-- two bytes into a room for both, and the first of them into one that is smaller
+pub pair-in : (a b : ℕ) (d : List ℕ) → 2 ≤ length d → Put (a ∷ b ∷ []) d (set (set d 0 a) 1 b) 2
+pair-in a b [] h = absurd (omega arith)
+pair-in a b (x ∷ []) h = absurd (omega arith)
+pair-in a b (x ∷ y ∷ d) h = record { room = refl; count = refl; inside = omega arith }
+
+pub pair-cut : (a b : ℕ) (d : List ℕ) {e : List ℕ} {n : ℕ} → length d < 2 → Put (a ∷ []) d e n → Put (a ∷ b ∷ []) d e n
+pair-cut a b [] h w = record { room = w .room; count = w .count; inside = w .inside }
+pair-cut a b (x ∷ []) h w = record { room = w .room; count = w .count; inside = w .inside }
+pair-cut a b (x ∷ y ∷ d) h w = absurd (omega arith)
 
 pub nothing : (d : List ℕ) → Put [] d d 0
 nothing d = record { room = refl; count = refl; inside = omega arith }

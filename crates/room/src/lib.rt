@@ -29,6 +29,18 @@ pub fn put_byte(b: u8, out: &mut [u8]) -> usize
     1
 }
 
+// Two bytes, one after the other; where the room ends between them, the first alone.
+pub fn put_pair(a: u8, b: u8, out: &mut [u8]) -> usize
+    ensures { λ r. ⌜ Put (a ∷ b ∷ []) (now (out .entry)) (now (out .exit)) r ⌝ }
+{
+    if out.len() < 2 {
+        return put_byte(a, out);
+    }
+    out[0] = a;
+    out[1] = b;
+    2
+}
+
 fn fewer(a: usize, b: usize) -> usize
     ensures { λ r. ⌜ (r ≤ a) × (r ≤ b) × ((r ≡ a) ⊎ (r ≡ b)) ⌝ }
 {
@@ -50,14 +62,14 @@ fn copy(s: &[u8], count: usize, out: &mut [u8])
     }
 }
 
-// The same, for a block at most. The bytes go through an array, which lies apart from both slices: so the compiler sees that
-// it may move the whole block at once, by memmove, and then needs no array.
+// The same, for a block at most, which no value of a container exceeds. The bytes go through an array, which lies apart from both
+// slices: so the compiler sees that it may move the whole block at once, by memmove, and then needs no array.
 fn copy_block(s: &[u8], count: usize, out: &mut [u8]) -> usize
     requires { ⌜ (0 < count) × (count ≤ length (now s)) × (count ≤ length (now out)) ⌝ }
     ensures { λ r. ⌜ (0 < r) × (r ≤ count) × (now (out .exit) ≡ take r (now (s .entry)) ++ drop r (now (out .entry))) ⌝ }
 {
-    let size = fewer(count, 4096);
-    let mut block = [0u8; 4096];
+    let size = fewer(count, 32768);
+    let mut block = [0u8; 32768];
     copy(s, size, &mut block);
     copy(&block, size, out);
     size

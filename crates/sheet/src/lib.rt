@@ -32,8 +32,7 @@ pub struct Checked {
 fn put_count(n: usize, out: &mut [u8]) -> usize
     ensures { λ r. ⌜ Put (count n) (now (out .entry)) (now (out .exit)) r ⌝ }
 {
-    let at = room::put_byte((n / 256 % 256) as u8, out);
-    at + room::put_byte((n % 256) as u8, &mut out[at..])
+    room::put_pair((n / 256 % 256) as u8, (n % 256) as u8, out)
 }
 
 // A value's section: a count of one more than its bytes, so that an empty value is not an absent one; then its bytes.

@@ -97,8 +97,7 @@ fn hex_digit(d: u8) -> u8
 pub fn put_hex(b: u8, out: &mut [u8]) -> usize
     ensures { λ r. ⌜ Put (hex2 b) (now (out .entry)) (now (out .exit)) r ⌝ }
 {
-    let at = put_byte(hex_digit(b / 16), out);
-    at + put_byte(hex_digit(b % 16), &mut out[at..])
+    room::put_pair(hex_digit(b / 16), hex_digit(b % 16), out)
 }
 
 // A tag as two hex digits, or as four.

@@ -25,9 +25,7 @@ fn put_tag(tag: u64, out: &mut [u8]) -> usize
     if tag < 256 {
         return room::put_byte(tag as u8, out);
     }
-    let mut at = room::put_byte((tag / 256) as u8, out);
-    at += room::put_byte((tag % 256) as u8, &mut out[at..]);
-    at
+    room::put_pair((tag / 256) as u8, (tag % 256) as u8, out)
 }
 
 // "An element is tag, length, value."

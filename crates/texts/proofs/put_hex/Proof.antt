@@ -2,20 +2,18 @@
 use Prim.Native.Nat.{_<_}
 use native.Mathlib.Omega.{arith}
 use borrow.Author.Needs.{needs}
-use Rattle.laws.proofs.Rooms.{then}
 use Rattle.texts.proofs.Texts.{hex-is}
 use Rattle.texts.proofs.put_hex.Statement.{statement}
 use Rattle.texts.proofs.put_hex.Tie as tie
 
 returns : tie.Need-returns
 returns c =
-    let second = c .before .before in
-    let low = second .before .before in
-    let first = low .before .before .before in
-    let high = first .before .before in
+    let both = c .before .before in
+    let low = both .before .before in
+    let high = low .before in
     let b = high .before .before .args .b in
     let f : b < 256 = omega arith in
-    rw (← hex-is b _ _ f (high .hex-digit .ensures) (low .hex-digit2 .ensures)) (then (first .put-byte .ensures) (second .put-byte2 .ensures))
+    rw (← hex-is b _ _ f (high .hex-digit .ensures) (low .hex-digit2 .ensures)) (both .put-pair .ensures)
 
 pub put-hex-spec : {M : Type 1} → statement M
 put-hex-spec =
@@ -24,10 +22,5 @@ put-hex-spec =
     (λ c κs. search needs)
     (λ c κs. search needs)
     (λ c κs. search needs)
-    (λ c. search needs)
-    (λ c. search needs)
-    (λ c. search needs)
-    (λ c κs. search needs)
-    (λ c. search needs)
     (λ c. search needs)
     returns)

@@ -1,7 +1,6 @@
 -- `writing::put_tag` meets its contract. Assumes nothing.
 use borrow.Author.Needs.{needs}
 use borrow.Author.Tests.{lt-ltb, le-ltb}
-use Rattle.laws.proofs.Rooms.{then}
 use Rattle.writing.proofs.put_tag.Statement.{statement}
 use Rattle.writing.proofs.put_tag.Tie as tie
 
@@ -13,8 +12,7 @@ returns c =
 returns-2 : tie.Need-returns-2
 returns-2 c =
     let k = c .before .before in
-    let j = k .before .before .before .before in
-    rw (le-ltb _ _ (j .before .before .if1 .left)) (then (j .put-byte2 .ensures) (k .put-byte3 .ensures))
+    rw (le-ltb _ _ (k .before .before .if1 .left)) (k .put-pair .ensures)
 
 pub put-tag-spec : {M : Type 1} → statement M
 put-tag-spec =
@@ -25,12 +23,7 @@ put-tag-spec =
     (λ c. search needs)
     returns
     (λ c. search needs)
-    (λ c κs. search needs)
-    (λ c. search needs)
-    (λ c. search needs)
-    (λ c. search needs)
     (λ c. search needs)
     (λ c κs. search needs)
-    (λ c. search needs)
     (λ c. search needs)
     returns-2)
