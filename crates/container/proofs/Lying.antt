@@ -23,7 +23,7 @@ use Rattle.verdicts.specs.Verdicts.{found}
 use Rattle.verdicts.specs.declared.Finding.{Finding}
 use Rattle.verdicts.specs.declared.Outcome.the-variants.{Fine, Broken}
 use Rattle.container.specs.Container.{Values, tagBytes, long, tagHere, outerTag, Allowed, largest}
-use Rattle.container.specs.Reading.{Parsed, values, fault, Part, valuesOf, alone, prepend, Element, whole, broken, element, follow, parse, inner, outer, located, parsed, outcomeOf, outcome}
+use Rattle.container.specs.Reading.{Parsed, values, fault, Part, valuesOf, alone, prepend, Element, whole, broken, element, follow, parse, inner, outer, located, parsed, outcomeOf}
 use Rattle.container.specs.Map.{laid, noted, mapOf, rowValue, rowValues}
 use Rattle.container.specs.declared.Map.{Map}
 use Rattle.container.proofs.One.{element-is}
@@ -265,11 +265,6 @@ shows kind today c b ps e =
 module _ (kind today : ℕ) (c : List ℕ) {m : Map} (e : m ≡ mapOf (located kind today c)) where
   outcome-is : m .outcome ≡ outcomeOf (alone (located kind today c))
   outcome-is = ap (λ (m : Map). m .outcome) e ∙ map-outcome (located kind today c)
-
-  -- its outcome is that of the bytes
-  pub told : m .outcome ≡ outcome kind today c
-  unfolding outcome parsed
-  told = outcome-is
 
   -- something is wrong
   pub told-broken : {f : Finding} → m .outcome ≡ Broken f → located kind today c ≡ fault f

@@ -7,7 +7,7 @@ use native.Mathlib.Omega.{arith}
 use lib.Dec.{eqb}
 use lib.ListN.{length, getD, take, drop, drop-of-length-le, List·getD-eq-default}
 use borrow.Author.Tests.{ne-eqb}
-use Rattle.kinds.specs.Tables.{Table, certificate, tables, table, find, rowOf, first, rowAt, lastOf, lastRow}
+use Rattle.kinds.specs.Tables.{Table, certificate, tables, table, find, first}
 use Rattle.kinds.specs.declared.Row.the-variants.{Missing}
 use Rattle.kinds.specs.declared.Slot.the-variants.{End}
 

@@ -28,16 +28,14 @@ use Rattle.verdicts.specs.declared.Outcome.{Outcome}
 use Rattle.verdicts.specs.declared.Outcome.the-variants.{Fine, Broken}
 use Rattle.container.specs.Container.{Values, container, largest}
 use Rattle.container.specs.Reading.{Parsed, values, fault, Part, located}
-use Rattle.sheet.specs.Sheet.{sheetOf}
-use Rattle.sheet.specs.Calls.{roomy}
+use Rattle.sheet.specs.Calls.{Given, short, fits, Says, breaks, conforms}
 use Rattle.sheet.specs.declared.Checked.{Checked}
 use Rattle.sections.specs.Opened.{opened, judged}
-use Rattle.writing.specs.Writing.{sizedOut, judgedOut, openedOut, writeOutput}
+use Rattle.writing.specs.Writing.{roomy, sizedOut, judgedOut, openedOut, writeOutput}
 use Rattle.views.specs.Views.{partOf, shown, viewOf, viewed}
 use Rattle.report.specs.Calls.{reportOutput}
 use Rattle.report.proofs.Answers.{report-cases}
-use Rattle.prosianek.specs.Calls.{Checks}
-use Rattle.prosianek.proofs.Checking.{broken, short, whole, ways, answered}
+use Rattle.prosianek.proofs.Checking.{answered}
 use Rattle.prosianek.proofs.Decoding.{is-decoded, decoded-else}
 use Rattle.promises.specs.Demands.{Numbered, Clean, Demand1}
 use Rattle.promises.proofs.Rooms.{answer, Fits, left-nothing, left-text, clean}
@@ -100,16 +98,15 @@ write-fits kind today s room =
 report-fits : (kind today : ℕ) (c : List ℕ) (room : ℕ) → Fits room (reportOutput kind today c room)
 report-fits kind today c room = report-cases kind today c room (Fits room) (λ f. tt) (λ t l s. omega arith)
 
--- ---- a check: whichever way it goes, of both its numbers
+-- ---- a check, of both its numbers
 
-check-clean : {kind today : ℕ} {c before after : List ℕ} {r : Checked} → Checks kind today c before after r
-    → Clean before after (r .verdict .number) (r .length) × Clean before after (r .room) (r .length)
-check-clean {before = d} h =
-    elim (ways h) [
-      | broken f e a z ↦ rw a (left-nothing d (inr (f .fault, refl)) (z ∙ filled-none (length d)), left-nothing d (inl refl) (z ∙ filled-none (length d)))
-      | short vs e l a z ↦ rw a (left-nothing d (inl refl) (z ∙ filled-none (length d)), left-nothing d (inr (SmallRoom, refl)) (z ∙ filled-none (length d)))
-      | whole vs e l a q ↦ rw a (left-text (sheetOf vs) d refl l q, left-text (sheetOf vs) d refl l q)
-    ]
+given-clean : {t d e : List ℕ} {m l : ℕ} → Given t d e m l → Clean d e 0 l × Clean d e m l
+given-clean {d = d} (short s m l z) = rw (m, l) (left-nothing d (inl refl) (z ∙ filled-none (length d)), left-nothing d (inr (SmallRoom, refl)) (z ∙ filled-none (length d)))
+given-clean {t} {d} (fits s m l z) = rw (m, l) (left-text t d refl s z, left-text t d refl s z)
+
+check-clean : {kind today : ℕ} {c d e : List ℕ} {r : Checked} → Says kind today c d e r → Clean d e (r .verdict .number) (r .length) × Clean d e (r .room) (r .length)
+check-clean {d = d} (breaks f n a z) = rw a (left-nothing d (inr (f .fault, refl)) (z ∙ filled-none (length d)), left-nothing d (inl refl) (z ∙ filled-none (length d)))
+check-clean (conforms vs k a g) = rw a (given-clean g)
 
 -- ---- encoding: 7, 3, or the 25 bytes
 
@@ -148,7 +145,7 @@ demand-1 = record {
   report-answers = λ kind today c before. (_, _, record { leaves = answer (reportOutput kind today c (length before)) before });
   decode-answers = λ s b. (decoded s, is-decoded s b refl, decoded-numbered s);
   encode-answers = λ n before. (_, _, record { leaves = record { answer = refl; room = refl } });
-  check-clean = λ kind today c before after r h. check-clean h;
+  check-clean = λ kind today c before after r h. check-clean (h .says);
   write-clean = λ kind today s before after r h. clean (writeOutput kind today s (length before)) before (write-fits kind today s (length before)) (h .leaves);
   report-clean = λ kind today c before after r h. clean (reportOutput kind today c (length before)) before (report-fits kind today c (length before)) (h .leaves);
   encode-clean = λ n before after number h. encode-clean n before after number (h .leaves);

@@ -32,15 +32,16 @@ use Rattle.container.specs.InOrder.{Named}
 use Rattle.container.proofs.Named.{named-back, named-exact}
 use Rattle.container.proofs.Promise.{exact, exactly-when, unique, named}
 use Rattle.sheet.specs.Sheet.{sheetOf, IsSheet}
+use Rattle.sheet.specs.Calls.{Given, short, fits, Says, breaks, conforms}
 use Rattle.sheet.specs.declared.Checked.{Checked}
 use Rattle.sheet.proofs.Sheets.{conforming-sheet, conforming-some}
 use Rattle.sheet.proofs.Bound.{sheet-bound}
 use Rattle.writing.specs.Writing.{writeOutput}
-use Rattle.writing.proofs.Promise.{accepted, read-write, write-read}
+use Rattle.writing.proofs.Promise.{accepted, written-bytes, read-write}
 use Rattle.views.specs.Views.{View, viewed}
 use Rattle.views.proofs.Elements.{Shows, element-view, element-place, absent-view, foreign-view}
 use Rattle.prosianek.specs.Calls.{Checks, Writes, Views}
-use Rattle.prosianek.proofs.Checking.{broken, short, whole, when-short, when-whole, ways}
+use Rattle.prosianek.proofs.Checking.{judged, given}
 use Rattle.prosianek.proofs.Decoding.{decoded-once, decoded-0}
 use Rattle.promises.specs.Demands.{Shown, Demand2}
 use Rattle.promises.proofs.Rooms.{text-of, gave}
@@ -65,54 +66,58 @@ only-first kind today c b r a f place h =
     let q : r ≡ record { number = numberOf f; place = place } = a ∙ ap (λ (x : Parsed (List ℕ)). verdictOf (outcomeOf x)) (named-back kind today (found f place) c b h) in
     (ap (λ (v : Verdict). v .number) q, ap (λ (v : Verdict). v .place) q)
 
--- ---- checks
+-- ---- what stands beside the verdict
 
 no-3 : {n : ℕ} → n ≡ 0 → n ≡ numberOf SmallRoom → ⊥
 no-3 z t = omega arith
 
-module _ {kind today : ℕ} {c before after : List ℕ} {r : Checked} (b : Bytes c) (h : Checks kind today c before after r) where
-  room-3 : (r .room ≡ numberOf SmallRoom) ↔ ((vs : Values) × Conforms kind today vs c × (length before < length (sheetOf vs)))
-  room-3 = (
-    λ t. elim (ways h) [
-      | broken f e a z ↦ absurd (no-3 (rw a) t)
-      | short vs e l a z ↦ (vs, exact kind today c b vs .0 e, l)
-      | whole vs e l a q ↦ absurd (no-3 (rw a) t)
+-- 3, or the sheet
+given-3 : {t d e : List ℕ} {m l : ℕ} → Given t d e m l → m ≡ numberOf SmallRoom → length d < length t
+given-3 (short s m l z) q = s
+given-3 (fits s m l z) q = absurd (no-3 m q)
+
+given-short : {t d e : List ℕ} {m l : ℕ} → Given t d e m l → length d < length t → m ≡ numberOf SmallRoom
+given-short (short s m l z) q = m
+given-short (fits s m l z) q = absurd (omega arith)
+
+given-0 : {t d e : List ℕ} {m l : ℕ} → Given t d e m l → m ≡ 0 → take l e ≡ t
+given-0 (short s m l z) q = absurd (no-3 q m)
+given-0 {t} {d} (fits s m l z) q = rw (l, z) (filled-front t (length d))
+
+given-fits : {t d e : List ℕ} {m l : ℕ} → Given t d e m l → length t ≤ length d → m ≡ 0
+given-fits (short s m l z) q = absurd (omega arith)
+given-fits (fits s m l z) q = m
+
+module _ {kind today : ℕ} {c before after : List ℕ} {r : Checked} where
+  -- a room that suffices gets the sheet
+  sheet-whole : Bytes c → Checks kind today c before after r → r .verdict .number ≡ 0 → r .room ≡ 0 → (vs : Values) × Conforms kind today vs c × (take (r .length) after ≡ sheetOf vs)
+  sheet-whole b h n z = elim (h .says) [
+    | breaks f k a q ↦ absurd (never-zero (f .fault) (rw a at n))
+    | conforms vs k a g ↦ (vs, k, given-0 g z)
+  ]
+
+  room-3 : Bytes c → Checks kind today c before after r → (r .room ≡ numberOf SmallRoom) ↔ ((vs : Values) × Conforms kind today vs c × (length before < length (sheetOf vs)))
+  room-3 b h = (
+    λ t. elim (h .says) [
+      | breaks f k a q ↦ absurd (no-3 (rw a) t)
+      | conforms vs k a g ↦ (vs, k, given-3 g t)
     ],
-    λ v. rw (when-short h (v .0) (exact kind today c b (v .0) .1 (v .1)) (v .2) .0),
+    λ v. given-short (given b h (v .0) (v .1)) (v .2),
   )
 
-  -- a room that suffices gets the sheet
-  sheet-whole : r .verdict .number ≡ 0 → r .room ≡ 0 → (vs : Values) × Conforms kind today vs c × (take (r .length) after ≡ sheetOf vs)
-  sheet-whole n z =
-      elim (ways h) [
-        | broken f e a q ↦ absurd (never-zero (f .fault) (rw a at n))
-        | short vs e l a q ↦ absurd (no-3 z (rw a))
-        | whole vs e l a q ↦ (vs, exact kind today c b vs .0 e, rw (a, q) (filled-front (sheetOf vs) (length before)))
-      ]
+  room-0-or-3 : Says kind today c before after r → (r .room ≡ 0) ⊎ (r .room ≡ numberOf SmallRoom)
+  room-0-or-3 (breaks f k a q) = inl (rw a)
+  room-0-or-3 (conforms vs k a (short s m l z)) = inr m
+  room-0-or-3 (conforms vs k a (fits s m l z)) = inl m
 
-  room-for-sheet : length c + 6 ≤ length before → r .room ≡ 0
-  room-for-sheet l =
-      elim (ways h) [
-        | broken f e a q ↦ rw a
-        | short vs e k a q ↦ absurd (omega (arith, sheet-bound kind today vs c (exact kind today c b vs .0 e)))
-        | whole vs e k a q ↦ rw a
-      ]
+  no-sheet : Says kind today c before after r → (r .verdict .number ≡ 0 → ⊥) ⊎ (r .room ≡ 0 → ⊥) → (r .length ≡ 0) × (after ≡ zeros (length before))
+  no-sheet (breaks f k a q) n = (rw a, q)
+  no-sheet (conforms vs k a (short s m l z)) n = (l, z)
+  no-sheet (conforms vs k a (fits s m l z)) n = absurd (⊎-elim (λ x. x (rw a)) (λ x. x m) n)
 
-room-0-or-3 : {kind today : ℕ} {c before after : List ℕ} {r : Checked} → Checks kind today c before after r → (r .room ≡ 0) ⊎ (r .room ≡ numberOf SmallRoom)
-room-0-or-3 h = elim (ways h) [
-  | broken f e a q ↦ inl (rw a)
-  | short vs e l a q ↦ inr (rw a)
-  | whole vs e l a q ↦ inl (rw a)
-]
-
-no-sheet : {kind today : ℕ} {c before after : List ℕ} {r : Checked} → Checks kind today c before after r → (r .verdict .number ≡ 0 → ⊥) ⊎ (r .room ≡ 0 → ⊥)
-    → (r .length ≡ 0) × (after ≡ zeros (length before))
-no-sheet h n =
-    elim (ways h) [
-      | broken f e a q ↦ (rw a, q)
-      | short vs e l a q ↦ (rw a, q)
-      | whole vs e l a q ↦ absurd (⊎-elim (λ m. m (rw a)) (λ m. m (rw a)) n)
-    ]
+  room-for-sheet : Says kind today c before after r → length c + 6 ≤ length before → r .room ≡ 0
+  room-for-sheet (breaks f k a q) l = rw a
+  room-for-sheet (conforms vs k a g) l = given-fits g (omega (arith, sheet-bound kind today vs c k))
 
 -- ---- sheets
 
@@ -143,16 +148,15 @@ module _ (kind today : ℕ) where
   back : (s before after : List ℕ) (r : Done) → Bytes s → Writes kind today s before after r → r .number ≡ 0
       → (before₂ after₂ : List ℕ) (r₂ : Checked) → Checks kind today (take (r .length) after) before₂ after₂ r₂
       → (r₂ .verdict .number ≡ 0) × (length s ≤ length before₂ → (r₂ .room ≡ 0) × (take (r₂ .length) after₂ ≡ s))
-  unfolding outcome
   back s before after r b h z before₂ after₂ r₂ k =
       let (c, e, t) = text-of (writeOutput kind today s (length before)) before (h .leaves) z in
-      let (vs, p, w) = write-read kind today s b (length before) c e in
-      let k′ : Checks kind today c before₂ after₂ r₂ = rw t at k in (
-        rw (k′ .judges .answer, p),
-        λ l.
-            let (a, q) = when-whole k′ vs p (rw (← w) l) in
-            let front : take (r₂ .length) after₂ ≡ sheetOf vs = rw (a, q) (filled-front (sheetOf vs) (length before₂)) in
-            (rw a, front ∙ sym w),
+      let (vs, i, f, l) = accepted kind today s (length before) b c .0 e in
+      let bc = written-bytes kind today s (length before) b c e in
+      let k′ : Checks kind today c before₂ after₂ r₂ = rw t at k in
+      let g = given bc k′ vs f in (
+        rw (judged bc k′ .answer) (exactly-when kind today c bc .1 (vs, f)),
+        λ m. let q = given-fits g (rw (i .written) at m) in
+            (q, given-0 g q ∙ sym (i .written)),
       )
 
 -- ---- views
@@ -192,25 +196,26 @@ encoding n d e k r h l = l .answer ∙ rw (r, le-ltb (length d) 25 h)
 
 pub demand-2 : Demand2
 demand-2 = record {
-  exactly-when = λ kind today c before after r b h. rw (h .judges .answer) (exactly-when kind today c b);
+  exactly-when = λ kind today c before after r b h. rw (judged b h .answer) (exactly-when kind today c b);
   only-one = unique;
-  first-named = λ kind today c before after r b h. first-named kind today c b (r .verdict) (h .judges .answer);
-  only-first = λ kind today c before after r b h. only-first kind today c b (r .verdict) (h .judges .answer);
-  any-room = λ kind today c before₁ before₂ after₁ after₂ r₁ r₂ h k. h .judges .answer ∙ sym (k .judges .answer);
+  first-named = λ kind today c before after r b h. first-named kind today c b (r .verdict) (judged b h .answer);
+  only-first = λ kind today c before after r b h. only-first kind today c b (r .verdict) (judged b h .answer);
+  judged = λ kind today c before after r b h. judged b h;
+  any-room = λ kind today c before₁ before₂ after₁ after₂ r₁ r₂ b h k. judged b h .answer ∙ sym (judged b k .answer);
   parsed-values = exact;
   parsed-fault = λ kind today c b f place. named-exact kind today c b (found f place);
   room-3 = λ kind today c before after r b h. room-3 b h;
-  room-0-or-3 = λ kind today c before after r h. room-0-or-3 h;
+  room-0-or-3 = λ kind today c before after r h. room-0-or-3 (h .says);
   empty-room = λ kind today c after r b h z.
-      let (vs, f) = exactly-when kind today c b .0 (rw (h .judges .answer) at z) in
+      let (vs, f) = exactly-when kind today c b .0 (rw (judged b h .answer) at z) in
       room-3 b h .1 (vs, f, conforming-some kind today vs c f);
-  no-sheet = λ kind today c before after r h. no-sheet h;
+  no-sheet = λ kind today c before after r h. no-sheet (h .says);
   sheet-values = λ kind today c before after r b h n z.
       let (vs, f, t) = sheet-whole b h n z in
       (vs, f, rw t (conforming-sheet kind today vs c f));
   write-values = writes;
   accepted-when = accepts;
-  room-for-sheet = λ kind today c before after r b h. room-for-sheet b h;
+  room-for-sheet = λ kind today c before after r b h. room-for-sheet (h .says);
   read-then-write = there;
   write-then-read = back;
   view-value = λ kind today c b vs h i t o e v q at number place part bytes a. shown kind today c t (element-view kind today c b vs h i e v q) a;

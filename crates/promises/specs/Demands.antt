@@ -57,7 +57,7 @@ pub record Clean (before after : List ℕ) (number size : ℕ) : Type 0 where
 
 pub record Demand1 : Type 0 where
   -- there is an answer, whatever is given and whatever a room held
-  pub check-answers : (kind today : ℕ) (c before : List ℕ) → (after : List ℕ) × (r : Checked) × Checks kind today c before after r
+  pub check-answers : (kind today : ℕ) (c before : List ℕ) → Bytes c → (after : List ℕ) × (r : Checked) × Checks kind today c before after r
   pub write-answers : (kind today : ℕ) (s before : List ℕ) → (after : List ℕ) × (r : Done) × Writes kind today s before after r
   pub view-answers : (kind today : ℕ) (c : List ℕ) (tag : ℕ) (at : ℕ × ℕ)
       → (number place : ℕ) × (part : ℕ × ℕ) × (bytes : List ℕ) × Views kind today c tag at number place part bytes × Numbered number
@@ -100,8 +100,9 @@ pub record Demand2 : Type 0 where
   -- and nothing else can be named: where a rule is the first that is broken, the verdict is its number and its place
   pub only-first : (kind today : ℕ) (c before after : List ℕ) (r : Checked) → Bytes c → Checks kind today c before after r → (f : Fault) (place : ℕ)
       → Named kind today c (found f place) → (r .verdict .number ≡ numberOf f) × (r .verdict .place ≡ place)
-  -- the verdict does not depend on the room: with any two it is the same
-  pub any-room : (kind today : ℕ) (c before₁ before₂ after₁ after₂ : List ℕ) (r₁ r₂ : Checked)
+  -- it is the verdict of the bytes, of which demand 3 speaks; it does not depend on the room: with any two it is the same
+  pub judged : (kind today : ℕ) (c before after : List ℕ) (r : Checked) → Bytes c → Checks kind today c before after r → Judges kind today c (r .verdict)
+  pub any-room : (kind today : ℕ) (c before₁ before₂ after₁ after₂ : List ℕ) (r₁ r₂ : Checked) → Bytes c
       → Checks kind today c before₁ after₁ r₁ → Checks kind today c before₂ after₂ r₂ → r₁ .verdict ≡ r₂ .verdict
   -- what is read of some bytes, from which sheets, views and reports are made: their values, exactly where they conform, or else the first broken rule
   pub parsed-values : (kind today : ℕ) (c : List ℕ) → Bytes c → (vs : Values) → (parsed kind today c ≡ values vs) ↔ Conforms kind today vs c
@@ -210,7 +211,7 @@ pub record AtTheDesk : Type 0 where
 -- name of its reference is no value, and is left open.)
 
 pub record Settled : Type 0 where
-  pub one-check : (kind today : ℕ) (c before₁ before₂ after₁ after₂ : List ℕ) (r₁ r₂ : Checked) → length before₁ ≡ length before₂
+  pub one-check : (kind today : ℕ) (c before₁ before₂ after₁ after₂ : List ℕ) (r₁ r₂ : Checked) → Bytes c → length before₁ ≡ length before₂
       → Checks kind today c before₁ after₁ r₁ → Checks kind today c before₂ after₂ r₂ → (r₁ ≡ r₂) × (after₁ ≡ after₂)
   pub one-write : (kind today : ℕ) (s before₁ before₂ after₁ after₂ : List ℕ) (r₁ r₂ : Done) → length before₁ ≡ length before₂
       → Writes kind today s before₁ after₁ r₁ → Writes kind today s before₂ after₂ r₂ → (r₁ ≡ r₂) × (after₁ ≡ after₂)
@@ -225,7 +226,7 @@ pub record Settled : Type 0 where
 
 -- the same of the functions for C, which answer a number and store the others
 pub record SettledForC : Type 0 where
-  pub one-check : (kind today : ℕ) (c before₁ before₂ after₁ after₂ : List ℕ) (n₁ n₂ p₁ p₂ m₁ m₂ l₁ l₂ : ℕ) → length before₁ ≡ length before₂
+  pub one-check : (kind today : ℕ) (c before₁ before₂ after₁ after₂ : List ℕ) (n₁ n₂ p₁ p₂ m₁ m₂ l₁ l₂ : ℕ) → Bytes c → length before₁ ≡ length before₂
       → CChecks kind today c before₁ after₁ n₁ p₁ m₁ l₁ → CChecks kind today c before₂ after₂ n₂ p₂ m₂ l₂
       → (n₁ ≡ n₂) × (p₁ ≡ p₂) × (m₁ ≡ m₂) × (l₁ ≡ l₂) × (after₁ ≡ after₂)
   pub one-write : (kind today : ℕ) (s before₁ before₂ after₁ after₂ : List ℕ) (n₁ n₂ p₁ p₂ l₁ l₂ : ℕ) → length before₁ ≡ length before₂

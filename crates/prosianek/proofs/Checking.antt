@@ -1,89 +1,73 @@
--- What a check answers and leaves, in three ways. Assumes nothing.
---     when-broken    a rule is broken: its number and place, and zeros
---     when-short     none is, and the room is under the sheet's length: 0 with 3 beside it, and zeros
---     when-whole     none is, and the room suffices: 0, the sheet's length, and the sheet
---     ways           one of the three
---     answered       and there always is an answer
-use Prim.Native.Nat.{ℕ, _≤_, _<_}
+-- What a check says: the verdict of the bytes, beside it what their values give, always something, and never two things. Assumes nothing.
+use Prim.Native.Nat.{ℕ}
 use mathlib.Core.Logic.{inl, inr}
-use mathlib.Core.Path.{_≡_, refl, sym, ap, ap₂, _∙_}
-use mathlib.Core.List.{List, []}
-use lib.ListN.{length}
+use mathlib.Core.Path.{_≡_, refl, sym, _∙_}
+use mathlib.Core.List.{List}
+use native.Mathlib.Omega.{arith}
 use lib.Dec.{ltb}
+use lib.ListN.{length}
 use borrow.Author.Tests.{ltb-true, ltb-false}
-use Rattle.laws.specs.Room.{zeros, filled}
+use Rattle.laws.specs.Bytes.{Bytes}
 use Rattle.laws.proofs.Cases.{which}
-use Rattle.laws.proofs.Rooms.{filled-none}
-use Rattle.verdicts.specs.Verdicts.{numberOf, verdictOf}
-use Rattle.verdicts.specs.Output.{Output, bytesOf, doneOf}
-use Rattle.verdicts.specs.declared.Fault.the-variants.{SmallRoom}
-use Rattle.verdicts.specs.declared.Finding.{Finding}
-use Rattle.verdicts.specs.declared.Outcome.{Outcome}
+use Rattle.verdicts.specs.Verdicts.{verdictOf}
 use Rattle.verdicts.specs.declared.Outcome.the-variants.{Fine, Broken}
-use Rattle.verdicts.specs.declared.Verdict.{Verdict}
-use Rattle.verdicts.specs.declared.Done.{Done}
-use Rattle.verdicts.proofs.Outputs.{placeless}
-use Rattle.container.specs.Container.{Values}
-use Rattle.container.specs.Reading.{Parsed, values, fault, parsed, outcomeOf, outcome, verdict}
+use Rattle.container.specs.Container.{Values, Conforms}
+use Rattle.container.specs.Reading.{Parsed, values, fault, parsed, outcome}
+use Rattle.container.proofs.Exact.{no-values}
+use Rattle.container.proofs.Named.{named-back}
+use Rattle.container.proofs.Promise.{exact, unique, named}
 use Rattle.sheet.specs.Sheet.{sheetOf}
-use Rattle.sheet.specs.Calls.{sheetOutput}
+use Rattle.sheet.specs.Calls.{Given, short, fits, breaks, conforms}
 use Rattle.sheet.specs.declared.Checked.{Checked}
-use Rattle.sheet.proofs.Answers.{roomy-short, roomy-fits, out-broken, out-fine, out-place}
-use Rattle.prosianek.specs.Calls.{Checks}
+use Rattle.prosianek.specs.Calls.{Judges, Checks}
 
--- a verdict, and what is answered beside it
-abbrev pub joined : Verdict → Done → Checked
-joined v d = record { verdict = v; room = d .number; length = d .length }
+-- there is always an answer
+pub answered : (kind today : ℕ) (c before : List ℕ) → Bytes c → (after : List ℕ) × (r : Checked) × Checks kind today c before after r
+answered kind today c before b = go (parsed kind today c) refl
+  where
+    go : (p : Parsed (List ℕ)) → parsed kind today c ≡ p → (after : List ℕ) × (r : Checked) × Checks kind today c before after r
+    go (fault f) e = (_, record { verdict = verdictOf (Broken f); room = 0; length = 0 }, record { says = breaks f (named kind today c b f e) refl refl })
+    go (values vs) e =
+        let k = exact kind today c b vs .0 e in
+        elim (which (ltb (length before) (length (sheetOf vs)))) [
+          | inl q ↦ (_, record { verdict = verdictOf Fine; room = 3; length = 0 }, record { says = conforms vs k refl (short (ltb-true _ _ q) refl refl refl) })
+          | inr q ↦ (_, record { verdict = verdictOf Fine; room = 0; length = length (sheetOf vs) }, record { says = conforms vs k refl (fits (ltb-false _ _ q) refl refl refl) })
+        ]
 
-abbrev pub checked : Outcome → ℕ → ℕ → Checked
-checked o room size = record { verdict = verdictOf o; room = room; length = size }
-
-pub data Ways (kind today : ℕ) (c before after : List ℕ) (r : Checked) : Type 0 where
-  broken : (f : Finding) → parsed kind today c ≡ fault f → r ≡ checked (Broken f) 0 0 → after ≡ zeros (length before) → Ways kind today c before after r
-  short : (vs : Values) → parsed kind today c ≡ values vs → length before < length (sheetOf vs) → r ≡ checked Fine (numberOf SmallRoom) 0 → after ≡ zeros (length before)
-      → Ways kind today c before after r
-  whole : (vs : Values) → parsed kind today c ≡ values vs → length (sheetOf vs) ≤ length before → r ≡ checked Fine 0 (length (sheetOf vs))
-      → after ≡ filled (sheetOf vs) (length before) → Ways kind today c before after r
-
-module _ {kind today : ℕ} {c before after : List ℕ} {r : Checked} (h : Checks kind today c before after r) where
-  -- by what was read, and what goes into the room
-  by : {p : Parsed (List ℕ)} {o : Output} → parsed kind today c ≡ p → sheetOutput kind today c (length before) ≡ o
-      → (r ≡ joined (verdictOf (outcomeOf p)) (doneOf o)) × (after ≡ filled (bytesOf o) (length before))
+module _ {kind today : ℕ} {c before after : List ℕ} {r : Checked} (b : Bytes c) (h : Checks kind today c before after r) where
+  -- its verdict is that of the bytes
+  pub judged : Judges kind today c (r .verdict)
   unfolding outcome
-  by e q = (
-    ap₂ joined (h .judges .answer ∙ ap (λ (p : Parsed (List ℕ)). verdictOf (outcomeOf p)) e) (h .leaves .answer ∙ ap doneOf q),
-    h .leaves .room ∙ ap (λ (o : Output). filled (bytesOf o) (length before)) q,
-  )
+  judged = elim (h .says) [
+    | breaks f n a z ↦ record { answer = rw (a, named-back kind today f c b n) }
+    | conforms vs k e g ↦ record { answer = e ∙ rw (exact kind today c b vs .1 k) }
+  ]
 
-  pub when-broken : {f : Finding} → parsed kind today c ≡ fault f → (r ≡ checked (Broken f) 0 0) × (after ≡ zeros (length before))
-  when-broken e =
-      let (a, z) = by e (out-broken kind today c (length before) e) in
-      (a, z ∙ sym (filled-none (length before)))
+  -- beside it stands what the values of bytes that conform give
+  pub given : (vs : Values) → Conforms kind today vs c → Given (sheetOf vs) before after (r .room) (r .length)
+  given vs k = elim (h .says) [
+    | breaks f n a z ↦ absurd (no-values (sym (named-back kind today f c b n) ∙ exact kind today c b vs .1 k))
+    | conforms ws l e g ↦ rw (unique kind today c b ws vs l k) at g
+  ]
 
-  module _ (vs : Values) (e : parsed kind today c ≡ values vs) where
-    pub when-short : length before < length (sheetOf vs) → (r ≡ checked Fine (numberOf SmallRoom) 0) × (after ≡ zeros (length before))
-    when-short l =
-        let (a, z) = by e (out-fine kind today c (length before) e ∙ roomy-short (sheetOf vs) (length before) l) in
-        (a, z ∙ sym (filled-none (length before)))
+-- in rooms of one length there is one answer
+one-given : {t d₁ d₂ e₁ e₂ : List ℕ} {m₁ m₂ l₁ l₂ : ℕ} → length d₁ ≡ length d₂ → Given t d₁ e₁ m₁ l₁ → Given t d₂ e₂ m₂ l₂ → (m₁ ≡ m₂) × (l₁ ≡ l₂) × (e₁ ≡ e₂)
+one-given h (short s m l z) (short s′ m′ l′ z′) = (m ∙ sym m′, l ∙ sym l′, z ∙ rw h (sym z′))
+one-given h (short s m l z) (fits s′ m′ l′ z′) = absurd (omega arith)
+one-given h (fits s m l z) (short s′ m′ l′ z′) = absurd (omega arith)
+one-given h (fits s m l z) (fits s′ m′ l′ z′) = (m ∙ sym m′, l ∙ sym l′, z ∙ rw h (sym z′))
 
-    pub when-whole : length (sheetOf vs) ≤ length before → (r ≡ checked Fine 0 (length (sheetOf vs))) × (after ≡ filled (sheetOf vs) (length before))
-    when-whole l = by e (out-fine kind today c (length before) e ∙ roomy-fits (sheetOf vs) (length before) l)
+pub joined : {r₁ r₂ : Checked} → r₁ .verdict ≡ r₂ .verdict → r₁ .room ≡ r₂ .room → r₁ .length ≡ r₂ .length → r₁ ≡ r₂
+joined v m l = λ i. record { verdict = v i; room = m i; length = l i }
 
-  pub ways : Ways kind today c before after r
-  ways = go (parsed kind today c) refl
-    where
-      go : (p : Parsed (List ℕ)) → parsed kind today c ≡ p → Ways kind today c before after r
-      go (fault f) e = let (a, z) = when-broken e in broken f e a z
-      go (values vs) e =
-          elim (which (ltb (length before) (length (sheetOf vs)))) [
-            | inl q ↦ let l = ltb-true _ _ q in let (a, z) = when-short vs e l in short vs e l a z
-            | inr q ↦ let l = ltb-false _ _ q in let (a, z) = when-whole vs e l in whole vs e l a z
-          ]
-
-pub answered : (kind today : ℕ) (c before : List ℕ) → (after : List ℕ) × (r : Checked) × Checks kind today c before after r
-answered kind today c before =
-    let o = sheetOutput kind today c (length before) in (
-      filled (bytesOf o) (length before),
-      joined (verdict kind today c) (doneOf o),
-      record { judges = record { answer = refl }; leaves = placeless (out-place kind today c (length before)) (record { answer = refl; room = refl }) },
-    )
+pub one-answer : {kind today : ℕ} {c d₁ d₂ e₁ e₂ : List ℕ} {r₁ r₂ : Checked} → Bytes c → length d₁ ≡ length d₂ → Checks kind today c d₁ e₁ r₁ → Checks kind today c d₂ e₂ r₂
+    → (r₁ ≡ r₂) × (e₁ ≡ e₂)
+one-answer {kind} {today} {c} b q h k = elim (h .says) [
+  | breaks f n a z ↦ elim (k .says) [
+    | breaks g m x y ↦ (joined (judged b h .answer ∙ sym (judged b k .answer)) (rw (a, x)) (rw (a, x)), z ∙ rw q (sym y))
+    | conforms ws l e g ↦ absurd (no-values (sym (named-back kind today f c b n) ∙ exact kind today c b ws .1 l))
+  ]
+  | conforms vs l e g ↦
+      let (m, s, p) = one-given q g (given b k vs l) in
+      (joined (judged b h .answer ∙ sym (judged b k .answer)) m s, p)
+]

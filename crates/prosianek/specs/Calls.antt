@@ -13,7 +13,7 @@ use Rattle.verdicts.specs.Output.{Leaves}
 use Rattle.verdicts.specs.declared.Verdict.{Verdict}
 use Rattle.verdicts.specs.declared.Done.{Done}
 use Rattle.container.specs.Reading.{verdict}
-use Rattle.sheet.specs.Calls.{sheetOutput, beside}
+use Rattle.sheet.specs.Calls.{Says}
 use Rattle.sheet.specs.declared.Checked.{Checked}
 use Rattle.writing.specs.Writing.{writeOutput}
 use Rattle.views.specs.Views.{viewed, Answers}
@@ -23,11 +23,10 @@ use Rattle.report.specs.Calls.{reportOutput}
 pub record Judges (kind today : ℕ) (c : List ℕ) (v : Verdict) : Type 0 where
   pub answer : v ≡ verdict kind today c
 
--- 2026-13, "one that gives the verdict and, when it is 0 and the room suffices, the sheet": beside the verdict of the container c its sheet goes into a room
--- that was `before` and is left as `after`; or 3, "a field beside a verdict of 0 only"
+-- 2026-13, "one that gives the verdict and, when it is 0 and the room suffices, the sheet": of the container c, with a room that was `before` and is left as
+-- `after`
 pub record Checks (kind today : ℕ) (c before after : List ℕ) (r : Checked) : Type 0 where
-  pub judges : Judges kind today c (r .verdict)
-  pub leaves : Leaves (sheetOutput kind today c (length before)) before after (beside r)
+  pub says : Says kind today c before after r
 
 -- "Write: 1, 2, 5, then row by row 15, 16 and the value's rules, with the place of the row's count, then 4, 3": the container of the sheet s
 pub record Writes (kind today : ℕ) (s before after : List ℕ) (r : Done) : Type 0 where

@@ -1,4 +1,3 @@
 pub mod Sheets
-pub mod Answers
 pub mod Examples
 pub mod Bound

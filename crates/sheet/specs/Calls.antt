@@ -1,30 +1,27 @@
--- 2026-13, "Check and read in one": "Replace both calls by one that gives the verdict and, when it is 0 and the room suffices, the sheet." What goes into the
--- lent room beside the verdict.
-use Prim.Native.Nat.{ℕ}
-use mathlib.Core.Bool.{cond}
-use mathlib.Core.List.{List, []}
-use lib.Dec.{ltb}
+-- 2026-13, "Check and read in one": "Replace both calls by one that gives the verdict and, when it is 0 and the room suffices, the sheet."
+use Prim.Native.Nat.{ℕ, _<_, _≤_}
+use mathlib.Core.Path.{_≡_}
+use mathlib.Core.List.{List}
 use lib.ListN.{length}
-use Rattle.verdicts.specs.Verdicts.{found}
-use Rattle.verdicts.specs.Output.{Output, refusal, text}
+use Rattle.laws.specs.Room.{zeros, filled}
+use Rattle.verdicts.specs.Verdicts.{numberOf, verdictOf}
 use Rattle.verdicts.specs.declared.Fault.the-variants.{SmallRoom}
-use Rattle.verdicts.specs.declared.Done.{Done}
-use Rattle.container.specs.Reading.{Parsed, values, fault, parsed}
+use Rattle.verdicts.specs.declared.Finding.{Finding}
+use Rattle.verdicts.specs.declared.Outcome.the-variants.{Fine, Broken}
+use Rattle.container.specs.Container.{Values, Conforms}
+use Rattle.container.specs.InOrder.{Named}
 use Rattle.sheet.specs.Sheet.{sheetOf}
 use Rattle.sheet.specs.declared.Checked.{Checked}
 
--- a text that goes into a room of so many bytes, or 3
-abbrev pub roomy : List ℕ → ℕ → Output
-roomy t room = cond (ltb room (length t)) (refusal (found SmallRoom 0)) (text t)
+-- a text t for a room that was `before` and is left as `after`: it does not fit, 3, and nothing of it is there; or it does, 0, its length, and it is there
+pub data Given (t before after : List ℕ) (room size : ℕ) : Type 0 where
+  short : length before < length t → room ≡ numberOf SmallRoom → size ≡ 0 → after ≡ zeros (length before) → Given t before after room size
+  fits : length t ≤ length before → room ≡ 0 → size ≡ length t → after ≡ filled t (length before) → Given t before after room size
 
--- "3 for room is a field beside a verdict of 0 only": where a rule is broken there is no sheet, and no 3, however short the room
-abbrev pub sheetOut : Parsed (List ℕ) → ℕ → Output
-sheetOut (values vs) room = roomy (sheetOf vs) room
-sheetOut (fault f) room = text []
-
-unfoldable pub sheetOutput : ℕ → ℕ → List ℕ → ℕ → Output
-sheetOutput kind today c room = sheetOut (parsed kind today c) room
-
--- what a check answers beside the verdict, as a call that writes into the room alone would: its number, which has no place, and the sheet's length
-abbrev pub beside : Checked → Done
-beside r = record { number = r .room; place = 0; length = r .length }
+-- what a check says of the bytes c: the first broken rule, and "3 for room is a field beside a verdict of 0 only", so there is none beside it; or that they
+-- conform, and the sheet of their values goes into the room
+pub data Says (kind today : ℕ) (c before after : List ℕ) (r : Checked) : Type 0 where
+  breaks : (f : Finding) → Named kind today c f → r ≡ record { verdict = verdictOf (Broken f); room = 0; length = 0 } → after ≡ zeros (length before)
+      → Says kind today c before after r
+  conforms : (vs : Values) → Conforms kind today vs c → r .verdict ≡ verdictOf Fine → Given (sheetOf vs) before after (r .room) (r .length)
+      → Says kind today c before after r

@@ -1,19 +1,16 @@
-// The value sheet: "a section for each table row in order: a two-byte big-endian count, 0 for absent, else n + 1, then n
-// bytes."
+// The value sheet, "a section for each table row in order: a two-byte big-endian count, 0 for absent, else n + 1, then n
+// bytes"; and the check, which gives it beside its verdict.
 ghost use mathlib.Core.Path.{_≡_};
-ghost use mathlib.Core.Bool.{cond};
 ghost use mathlib.Core.Option.{some};
 ghost use Prim.Native.Nat.{_<_, _≤_};
-ghost use lib.Dec.{ltb};
 ghost use lib.ListN.{length};
 ghost use Rattle.laws.specs.Room.{laid, Put};
-ghost use Rattle.verdicts.specs.Output.{Leaves};
 ghost use Rattle.kinds.specs.Tables.{table};
 ghost use Rattle.container.specs.Container.{largest};
 ghost use Rattle.container.specs.Map.{Inside, rowValues};
-ghost use Rattle.container.specs.Reading.{verdict};
 ghost use Rattle.sheet.specs.Sheet.{count, section, sheetOf};
-ghost use Rattle.sheet.specs.Calls.{roomy, sheetOutput, beside};
+ghost use Rattle.sheet.specs.Keeping.{Kept};
+ghost use Rattle.sheet.specs.Calls.{Given, Says};
 use container::Map;
 use verdicts::Done;
 use verdicts::Fault;
@@ -43,11 +40,11 @@ fn put_section(value: &[u8], out: &mut [u8]) -> usize
     at + room::put_all(value, &mut out[at..])
 }
 
-// The sheet of the values that the map shows, a section for each row, as far as the room goes; and how long it is as a whole:
-// two bytes for each row, and the values.
+// The sheet of the values that the map shows, a section for each row, as far as the room goes. As a whole it has two bytes for
+// each row, and the values: that many are to stay, or none where the room is too small.
 fn put_sheet(kind: u64, c: &[u8], map: Map, out: &mut [u8]) -> usize
     requires { ⌜ Inside (map .from) (map .to) (length (now c)) × (length (now c) ≤ largest) ⌝ }
-    ensures { λ r. ⌜ r ≡ length (sheetOf (rowValues (map .from) (map .to) (now (c .entry)) (length (table kind)) 0)) ⌝ }
+    ensures { λ r. ⌜ Kept (sheetOf (rowValues (map .from) (map .to) (now (c .entry)) (length (table kind)) 0)) (now (out .entry)) r ⌝ }
     ensures { λ r. ⌜ now (out .exit) ≡ laid (sheetOf (rowValues (map .from) (map .to) (now (c .entry)) (length (table kind)) 0)) (now (out .entry)) ⌝ }
 {
     let froms = map.from;
@@ -68,14 +65,7 @@ fn put_sheet(kind: u64, c: &[u8], map: Map, out: &mut [u8]) -> usize
             size += 2 + (end - start);
         }
     }
-    size
-}
-
-// How much stays of a sheet that was put into a room as far as it goes: all of it, or nothing where the room is too small.
-fn kept(size: usize, room: usize) -> usize
-    ensures { λ r. ⌜ r ≡ cond (ltb room size) 0 size ⌝ }
-{
-    if room < size {
+    if out.len() < size {
         return 0;
     }
     size
@@ -85,13 +75,12 @@ fn kept(size: usize, room: usize) -> usize
 // it is too small for any, and nothing is written.
 fn give_sheet(kind: u64, c: &[u8], map: Map, out: &mut [u8]) -> Done
     requires { ⌜ Inside (map .from) (map .to) (length (now c)) × (length (now c) ≤ largest) × (0 < length (table kind)) ⌝ }
-    ensures { λ r. ⌜ Leaves (roomy (sheetOf (rowValues (map .from) (map .to) (now (c .entry)) (length (table kind)) 0)) (length (now (out .entry)))) (now (out .entry)) (now (out .exit)) r ⌝ }
+    ensures { λ r. ⌜ Given (sheetOf (rowValues (map .from) (map .to) (now (c .entry)) (length (table kind)) 0)) (now (out .entry)) (now (out .exit)) (r .number) (r .length) ⌝ }
 {
-    let room = out.len();
-    if room == 0 {
+    if out.len() == 0 {
         return verdicts::refused(verdicts::found(Fault::SmallRoom, 0));
     }
-    let size = kept(put_sheet(kind, c, map, out), room);
+    let size = put_sheet(kind, c, map, out);
     room::clear(&mut out[size..]);
     if size == 0 {
         return verdicts::refused(verdicts::found(Fault::SmallRoom, 0));
@@ -102,8 +91,7 @@ fn give_sheet(kind: u64, c: &[u8], map: Map, out: &mut [u8]) -> Done
 // The verdict, and beside a verdict of 0 the sheet, by one walk. A broken rule leaves zeros alone, and whether the room would have
 // sufficed is not asked.
 pub fn check(kind: u64, today: u64, container: &[u8], sheet: &mut [u8]) -> Checked
-    ensures { λ r. ⌜ r .verdict ≡ verdict kind today (now (container .entry)) ⌝ }
-    ensures { λ r. ⌜ Leaves (sheetOutput kind today (now (container .entry)) (length (now (sheet .entry)))) (now (sheet .entry)) (now (sheet .exit)) (beside r) ⌝ }
+    ensures { λ r. ⌜ Says kind today (now (container .entry)) (now (sheet .entry)) (now (sheet .exit)) r ⌝ }
 {
     let map = container::judge(kind, today, container);
     let outcome = map.outcome;

@@ -1,7 +1,7 @@
 -- The ways out of a call that writes into a lent room. Assumes nothing.
 use Prim.Native.Nat.{ℕ, _-_, _≤_}
-use mathlib.Core.Path.{_≡_, sym, ap, _∙_}
-use mathlib.Core.List.{List, []}
+use mathlib.Core.Path.{_≡_, sym, _∙_}
+use mathlib.Core.List.{List}
 use lib.ListN.{length}
 use borrow.Rule.Slice.PartMut.{midOf, putMid}
 use Rattle.laws.specs.Room.{zeros, laid, Put}
@@ -14,10 +14,6 @@ use Rattle.verdicts.specs.declared.Done.{Done}
 pub refuses : {o : Output} {f : Finding} (d : List ℕ) {e : List ℕ} {r : Done} → o ≡ refusal f → e ≡ zeros (length d) → r ≡ doneOf (refusal f) → Leaves o d e r
 refuses d q z a = record { answer = a ∙ rw q; room = z ∙ filled-none (length d) ∙ rw q }
 
--- no text is wanted, and none is there: the room was cleared
-pub gives-nothing : {o : Output} (d : List ℕ) {e : List ℕ} → o ≡ text [] → e ≡ zeros (length d) → Leaves o d e (record { number = 0; place = 0; length = 0 })
-gives-nothing d q z = record { answer = rw q; room = z ∙ filled-none (length d) ∙ rw q }
-
 -- a success: the whole text over a room that was cleared
 pub gives : {o : Output} {t : List ℕ} (d : List ℕ) {z e : List ℕ} {n : ℕ} {r : Done} → o ≡ text t → z ≡ zeros (length d) → length t ≤ length d → Put t z e n
     → r ≡ record { number = 0; place = 0; length = n } → Leaves o d e r
@@ -29,13 +25,6 @@ gives d q z h w a =
 pub gives-over : {o : Output} (t d : List ℕ) {e ys : List ℕ} {n : ℕ} {r : Done} → o ≡ text t → n ≡ length t → length t ≤ length d → e ≡ laid t d
     → ys ≡ zeros (length (midOf n (length e - n) e)) → r ≡ record { number = 0; place = 0; length = n } → Leaves o d (putMid n (length e - n) e ys) r
 gives-over t d q s h w z a = record { answer = a ∙ rw (s, q); room = laid-filled t d w s h z ∙ rw q }
-
--- an answer whose place is known to be 0, and is not handed on
-pub placeless : {o : Output} {d e : List ℕ} {r : Done} → doneOf o .place ≡ 0 → Leaves o d e r → Leaves o d e (record { number = r .number; place = 0; length = r .length })
-placeless {o = o} z l = record {
-  answer = ap (λ (r : Done). record { number = r .number; place = 0; length = r .length }) (l .answer) ∙ ap (λ (p : ℕ). record { number = doneOf o .number; place = p; length = doneOf o .length }) (sym z);
-  room = l .room;
-}
 
 -- two answers to the same output, in rooms of one length, are the same: number, place, length and each byte
 pub settled : (o : Output) (d₁ d₂ : List ℕ) {e₁ e₂ : List ℕ} {r₁ r₂ : Done} → length d₁ ≡ length d₂ → Leaves o d₁ e₁ r₁ → Leaves o d₂ e₂ r₂ → (r₁ ≡ r₂) × (e₁ ≡ e₂)

@@ -9,7 +9,7 @@ use mathlib.Core.List.{List, [], _∷_}
 use native.Mathlib.Omega.{arith}
 use lib.Dec.{ltb, leb}
 use lib.ListN.{length}
-use borrow.Author.Tests.{le-leb, leb-true, ltb-false}
+use borrow.Author.Tests.{le-ltb, le-leb, leb-true, ltb-false}
 use Rattle.laws.specs.Bytes.{Bytes}
 use Rattle.laws.proofs.Cases.{which}
 use Rattle.dates.specs.Date.{isDate}
@@ -23,15 +23,12 @@ use Rattle.verdicts.specs.declared.Ruling.the-variants.{Kept, Breaks}
 use Rattle.verdicts.specs.declared.Outcome.{Outcome}
 use Rattle.verdicts.specs.declared.Outcome.the-variants.{Fine, Broken}
 use Rattle.container.specs.Container.{Values, container, Allowed, largest, Conforms}
-use Rattle.container.specs.Reading.{values, parsed}
 use Rattle.container.proofs.One.{good-fits, fits-good}
-use Rattle.container.proofs.Promise.{kind-exact, conforms-parsed}
+use Rattle.container.proofs.Promise.{kind-exact}
 use Rattle.sheet.specs.Sheet.{sheetOf, Sheeted, IsSheet}
-use Rattle.sheet.specs.Calls.{roomy}
 use Rattle.sheet.proofs.Sheets.{conforming-sheet, conforming-bytes}
-use Rattle.sheet.proofs.Answers.{roomy-fits}
 use Rattle.sections.specs.Opened.{opened, keptOr, judged}
-use Rattle.writing.specs.Writing.{sizedOut, judgedOut, openedOut, writeOutput}
+use Rattle.writing.specs.Writing.{roomy, sizedOut, judgedOut, openedOut, writeOutput}
 use Rattle.writing.proofs.Sheets.{opened-exact, AllBytes, sheet-values, container-bytes}
 
 -- ---- nothing is broken exactly where the values are allowed
@@ -83,6 +80,9 @@ roomy-is t room c e =
       | inl l ↦ absurd (no-text (rw l at e))
       | inr l ↦ let q : text t ≡ text c = rw l at e in (cc, ltb-false _ _ l)
     ]
+
+roomy-fits : (t : List ℕ) (room : ℕ) → length t ≤ room → roomy t room ≡ text t
+roomy-fits t room h = rw (le-ltb _ _ h)
 
 sized-is : (t : List ℕ) (room : ℕ) (c : List ℕ) → sizedOut t room ≡ text c → (t ≡ c) × (length t ≤ largest) × (length t ≤ room)
 sized-is t room c e =
@@ -163,16 +163,7 @@ written-bytes kind today s room b c e =
     let a = accepted kind today s room b c .0 e in
     rw (a .2 .written) (container-bytes kind (a .0) (sheet-values (a .0) (rw (a .1 .written) at b)))
 
--- ---- the round trips
-
 -- the sheet of a container's values is written as that container
 pub read-write : (kind today : ℕ) (c : List ℕ) → Bytes c → (vs : Values) → Conforms kind today vs c → (room : ℕ) → length c ≤ room → writeOutput kind today (sheetOf vs) room ≡ text c
 read-write kind today c b vs f room h =
     accepted kind today (sheetOf vs) room (conforming-bytes kind today vs c f b) c .1 (vs, conforming-sheet kind today vs c f, f, h)
-
--- and what is written of a sheet is read as the values that it is the sheet of
-pub write-read : (kind today : ℕ) (s : List ℕ) → Bytes s → (room : ℕ) (c : List ℕ) → writeOutput kind today s room ≡ text c
-    → (vs : Values) × (parsed kind today c ≡ values vs) × (s ≡ sheetOf vs)
-write-read kind today s b room c e =
-    let (vs, i, f, h) = accepted kind today s room b c .0 e in
-    (vs, conforms-parsed kind today c (written-bytes kind today s room b c e) vs f, i .written)

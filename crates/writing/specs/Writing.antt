@@ -3,20 +3,23 @@ use Prim.Native.Nat.{ℕ}
 use mathlib.Core.Bool.{cond}
 use mathlib.Core.Option.{Option, none, some}
 use mathlib.Core.List.{List}
-use lib.Dec.{leb}
+use lib.Dec.{leb, ltb}
 use lib.ListN.{length}
 use Rattle.kinds.specs.Tables.{table, isKind}
 use Rattle.dates.specs.Date.{isDate}
 use Rattle.verdicts.specs.Verdicts.{found}
-use Rattle.verdicts.specs.Output.{Output, refusal}
-use Rattle.verdicts.specs.declared.Fault.the-variants.{UnknownKind, NoDate, LargeContainer, TornSheet}
+use Rattle.verdicts.specs.Output.{Output, refusal, text}
+use Rattle.verdicts.specs.declared.Fault.the-variants.{UnknownKind, NoDate, SmallRoom, LargeContainer, TornSheet}
 use Rattle.verdicts.specs.declared.Outcome.{Outcome}
 use Rattle.verdicts.specs.declared.Outcome.the-variants.{Fine, Broken}
 use Rattle.container.specs.Container.{Values, container, largest}
-use Rattle.sheet.specs.Calls.{roomy}
 use Rattle.sections.specs.Opened.{opened, judged}
 
 -- ---- the whole
+
+-- a text that goes into a room of so many bytes, or 3
+abbrev pub roomy : List ℕ → ℕ → Output
+roomy t room = cond (ltb room (length t)) (refusal (found SmallRoom 0)) (text t)
 
 abbrev pub sizedOut : List ℕ → ℕ → Output
 sizedOut c room = cond (leb (length c) largest) (roomy c room) (refusal (found LargeContainer 0))

@@ -1,11 +1,13 @@
 -- `sheet::put_sheet` meets its contract. The loop's invariant: what is left of the sheet is that of the rows to come. Assumes nothing.
 use Prim.Native.Nat.{ℕ, _+_, _*_, _-_, _≤_, _<_}
+use mathlib.Core.Logic.{inl, inr}
 use mathlib.Core.Path.{_≡_, refl, ap, _∙_}
 use mathlib.Core.List.{List}
 use native.Mathlib.Nat.{sub-zero}
 use native.Mathlib.Omega.{arith}
 use lib.ListN.{length, getD}
 use borrow.Author.Needs.{needs}
+use Rattle.laws.specs.Room.{laid}
 use Rattle.laws.proofs.Rooms.{Left, begin, step, ended}
 use Rattle.kinds.specs.Tables.{table}
 use Rattle.kinds.proofs.Every.{few-rows, last-is-all}
@@ -85,12 +87,21 @@ loop-again-2 c =
       v .inv .8,
     )
 
+-- at the end all of it was put there
+put : (e : tie.After-loop Inv-loop μ-loop) → let a = e .before .before .before .before .before .before .before .args in
+    let all = sheetOf (rowValues (a .map .from) (a .map .to) (a .c .now) (length (table (a .kind))) 0) in
+    (e .before .loop .size ≡ length all) × (e .before .loop .out ≡ laid all (a .out .now))
+put e =
+    let v = e .before .loop in
+    let a = e .before .before .before .before .before .before .before .args in
+    let n = none-left (a .map .from) (a .map .to) (a .c .now) (length (table (a .kind))) (v .row) (omega (arith, v .inv .8)) in
+    (omega (arith, v .inv .4, ap length n), ended n (v .inv .5) .room)
+
 returns : tie.Need-returns Inv-loop μ-loop
-returns c =
-    let v = c .before .loop in
-    let a = c .before .before .before .before .before .before .before .args in
-    let e = none-left (a .map .from) (a .map .to) (a .c .now) (length (table (a .kind))) (v .row) (omega (arith, v .inv .8)) in
-    (omega (arith, v .inv .4, ap length e), ended e (v .inv .5) .room)
+returns c = let (s, r) = put (c .before) in (inl (omega (arith, s, c .before .before .loop .inv .1), refl), r)
+
+returns-2 : tie.Need-returns-2 Inv-loop μ-loop
+returns-2 c = let (s, r) = put (c .before) in (inr (omega (arith, s, c .before .before .loop .inv .1), s), r)
 
 pub put-sheet-spec : {M : Type 1} → statement M
 put-sheet-spec =
@@ -129,4 +140,6 @@ put-sheet-spec =
     (λ c. omega (arith, next (c .before .before .before .before .before .before)))
     loop-again-2
     (λ c. search needs)
-    returns)
+    returns
+    (λ c. search needs)
+    returns-2)
