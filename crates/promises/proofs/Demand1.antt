@@ -132,7 +132,7 @@ encode-clean n d e k l =
 
 pub demand-1 : Demand1
 demand-1 = record {
-  check-answers = answered;
+  check-answers = λ kind today c before b. (_, _, answered b refl refl);
   write-answers = λ kind today s before. (_, _, record { leaves = answer (writeOutput kind today s (length before)) before });
   view-answers = λ kind today c tag at. let v = viewed kind today c tag in (
     v .number,

@@ -2,19 +2,17 @@
 use Prim.Native.Nat.{ℕ}
 use mathlib.Core.Logic.{_↔_}
 use mathlib.Core.Path.{_≡_, refl, sym, ap, _∙_}
-use mathlib.Core.Bool.{Bool, true, false, cond, not, _&&_, true≢false}
+use mathlib.Core.Bool.{Bool, true, false, not, _&&_, true≢false}
 use mathlib.Core.Option.{Option, none, some}
 use mathlib.Core.List.{List, [], _∷_}
 use lib.Count.{ones}
 use lib.Dec.{ltb, eqb}
 use lib.ListN.{length}
-use borrow.Author.Tests.{eqb-true, eq-eqb, ltb-true, lt-ltb, le-ltb}
+use borrow.Author.Tests.{eqb-true, eq-eqb, ltb-true}
 use Rattle.laws.specs.Bytes.{Bytes}
-use Rattle.laws.specs.Room.{zeros, filled}
 use Rattle.laws.specs.Digits.{digits}
 use Rattle.laws.specs.Tests.{each, same}
 use Rattle.laws.proofs.Cases.{and-true, all-true, same-eq}
-use Rattle.laws.proofs.Rooms.{filled-none}
 use Rattle.fascn.specs.Fascn.{exclusive, values, checked, characters, encoded, inRange}
 use Rattle.fascn.specs.Reading.{valuesOf, framed, decoded, isFascn}
 use Rattle.fascn.proofs.Framing.{range-exact}
@@ -31,13 +29,11 @@ use Rattle.minutiae.specs.Judged.{pointHolds, pointsHold, viewHead, extent, rec
 use Rattle.der.specs.Length.{readLength as readDer}
 use Rattle.der.specs.Walk.{headOf, items, judged as walked, certificate}
 use Rattle.rules.specs.Rules.{ruleOf}
-use Rattle.container.specs.Reading.{Parsed, values as read-values, fault, element, located, parsed, outcome, verdict}
-use Rattle.container.proofs.Named.{named-back}
-use Rattle.container.proofs.Promise.{exact, exactly-when}
+use Rattle.container.specs.Reading.{element, located, parsed, outcome, verdict}
+use Rattle.container.proofs.Promise.{exactly-when}
 use Rattle.sheet.specs.Sheet.{sheetOf}
-use Rattle.sheet.specs.Calls.{short, fits, Says, breaks as says-breaks, conforms as says-conforms}
 use Rattle.sheet.specs.declared.Checked.{Checked}
-use Rattle.prosianek.proofs.Checking.{judged, joined}
+use Rattle.prosianek.proofs.Checking.{answer, output, only}
 use Rattle.promises.specs.Examples.{Example, fascn-of, no-fascn, spells, no-length, date, no-date, kept, late, conforms, breaks, checks, today, Holds, All, examples}
 use Rattle.promises.proofs.Demand2.{first-named}
 
@@ -49,11 +45,6 @@ areBytes = each (λ b. ltb b 256)
 isNone : Option Spelt → Bool
 isNone none = true
 isNone (some l) = false
-
--- what goes into a room of so many bytes
-gives : Parsed (List ℕ) → ℕ → ℕ → List ℕ → Bool
-gives (read-values vs) room three sheet = cond (ltb room (length (sheetOf vs))) (eqb three 3 && same sheet []) (eqb three 0 && same sheet (sheetOf vs))
-gives (fault f) room three sheet = eqb three 0 && same sheet []
 
 tested : Example → Bool
 tested (fascn-of s n) = inRange n && same s (encoded n)
@@ -68,7 +59,9 @@ tested (conforms kind c) = areBytes c && eqb (verdict kind today c .number) 0
 tested (breaks kind c number place) =
     areBytes c && not (eqb number 0) && eqb (verdict kind today c .number) number && eqb (verdict kind today c .place) place
 tested (checks kind c room number place three sheet) =
-    areBytes c && eqb (verdict kind today c .number) number && eqb (verdict kind today c .place) place && gives (parsed kind today c) room three sheet
+    let p = parsed kind today c in
+    let a = answer p room in
+    areBytes c && eqb (a .verdict .number) number && eqb (a .verdict .place) place && eqb (a .room) three && eqb (a .length) (length sheet) && same (output p room) sheet
 
 allTested : List Example → Bool
 allTested [] = true
@@ -92,36 +85,19 @@ breaks-so kind c b number place z n p =
     let (f, e, h) = first-named kind today c b (verdict kind today c) refl (λ q. z (sym n ∙ q)) in
     (f, sym n ∙ e, rw p at h)
 
-module _ (kind : ℕ) (c : List ℕ) (b : Bytes c) (room three : ℕ) (sheet : List ℕ) where
-  none-there : {n m l : ℕ} (before : List ℕ) {after : List ℕ} → (eqb three n && same sheet []) ≡ true → length before ≡ room → m ≡ n → l ≡ 0 → after ≡ zeros (length before)
-      → (m ≡ three) × (l ≡ length sheet) × (after ≡ filled sheet room)
-  none-there {n} before t q m l z =
-      let (e, f) = and-true (eqb three n) (same sheet []) t in
-      let s : sheet ≡ [] = same-eq sheet [] f in
-      (m ∙ sym (eqb-true three n e), l ∙ rw s, z ∙ rw (q, s) (filled-none room))
-
-  -- what stands beside the verdict, and in the room
-  beside : {before after : List ℕ} {r : Checked} → gives (parsed kind today c) room three sheet ≡ true → length before ≡ room → Says kind today c before after r
-      → (r .room ≡ three) × (r .length ≡ length sheet) × (after ≡ filled sheet room)
-  unfolding gives
-  beside {before = d} t q (says-breaks f n a z) = none-there d (rw (named-back kind today f c b n) at t) q (rw a) (rw a) z
-  beside {before = d} t q (says-conforms vs k a (short s m l z)) =
-      none-there d (rw (exact kind today c b vs .1 k, lt-ltb room (length (sheetOf vs)) (rw q at s)) at t) q m l z
-  beside t q (says-conforms vs k a (fits s m l z)) =
-      let (e, f) = and-true (eqb three 0) (same sheet (sheetOf vs)) (rw (exact kind today c b vs .1 k, le-ltb room (length (sheetOf vs)) (rw q at s)) at t) in
-      let w : sheet ≡ sheetOf vs = same-eq sheet (sheetOf vs) f in
-      (m ∙ sym (eqb-true three 0 e), l ∙ rw w, z ∙ rw (q, w))
+by-numbers : (a : Checked) {n p m l : ℕ} → a .verdict .number ≡ n → a .verdict .place ≡ p → a .room ≡ m → a .length ≡ l
+    → a ≡ record { verdict = record { number = n; place = p }; room = m; length = l }
+by-numbers a n p m l = λ i. record { verdict = record { number = n i; place = p i }; room = m i; length = l i }
 
 checks-so : (kind : ℕ) (c : List ℕ) (room number place three : ℕ) (sheet : List ℕ) → tested (checks kind c room number place three sheet) ≡ true
     → Holds (checks kind c room number place three sheet)
 unfolding tested
 checks-so kind c room number place three sheet t before after r q h =
-    let v = verdict kind today c in
-    let d = all-true (areBytes c ∷ eqb (v .number) number ∷ eqb (v .place) place ∷ gives (parsed kind today c) room three sheet ∷ []) t in
-    let b = are-bytes c (d 0) in
-    let w : v ≡ record { number = number; place = place } = λ i. record { number = eqb-true _ number (d 1) i; place = eqb-true _ place (d 2) i } in
-    let (m, l, z) = beside kind c b room three sheet (d 3) q (h .says) in
-    (joined (judged b h .answer ∙ w) m l, z)
+    let p = parsed kind today c in
+    let a = answer p room in
+    let d = all-true (areBytes c ∷ eqb (a .verdict .number) number ∷ eqb (a .verdict .place) place ∷ eqb (a .room) three ∷ eqb (a .length) (length sheet) ∷ same (output p room) sheet ∷ []) t in
+    let (x, z) = rw q at (only (are-bytes c (d 0)) h) in
+    (x ∙ by-numbers a (eqb-true _ _ (d 1)) (eqb-true _ _ (d 2)) (eqb-true _ _ (d 3)) (eqb-true _ _ (d 4)), z ∙ rw (same-eq (output p room) sheet (d 5)))
 
 so : (e : Example) → tested e ≡ true → Holds e
 unfolding tested isNone
@@ -148,7 +124,7 @@ all-so [] t = tt
 all-so (e ∷ es) t = let c = and-true (tested e) (allTested es) t in (so e (c .0), all-so es (c .1))
 
 all-tested : allTested examples ≡ true
-unfolding allTested tested gives areBytes isNone examples ones digits exclusive values checked characters encoded valuesOf framed decoded isFascn lengthBytes readLength daysIn exists isDate dateOf isMoment isUuid isPolicy isText ended isCreator pointHolds pointsHold viewHead extent recordHead isMinutiae readDer headOf items walked certificate ruleOf element located parsed outcome sheetOf
+unfolding allTested tested areBytes isNone examples ones digits exclusive values checked characters encoded valuesOf framed decoded isFascn lengthBytes readLength daysIn exists isDate dateOf isMoment isUuid isPolicy isText ended isCreator pointHolds pointsHold viewHead extent recordHead isMinutiae readDer headOf items walked certificate ruleOf element located parsed outcome sheetOf
 all-tested = refl
 
 pub examples-hold : All examples

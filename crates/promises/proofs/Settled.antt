@@ -9,14 +9,17 @@ use Rattle.fascn.specs.declared.Decoded.{Decoded}
 use Rattle.verdicts.specs.declared.Done.{Done}
 use Rattle.verdicts.proofs.Outputs.{settled as settled-output}
 use Rattle.sheet.specs.declared.Checked.{Checked}
-use Rattle.prosianek.proofs.Checking.{one-answer}
+use Rattle.prosianek.proofs.Checking.{only}
 use Rattle.prosianek.proofs.Decoding.{decoded-once}
 use Rattle.capi.specs.Calls.{numbersOf}
 use Rattle.promises.specs.Demands.{Settled, SettledForC}
 
 pub settled : Settled
 settled = record {
-  one-check = λ kind today c before₁ before₂ after₁ after₂ r₁ r₂. one-answer;
+  one-check = λ kind today c before₁ before₂ after₁ after₂ r₁ r₂ b h x y.
+      let (a, z) = only b x in
+      let (e, w) = only b y in
+      (a ∙ rw h (sym e), z ∙ rw h (sym w));
   one-write = λ kind today s before₁ before₂ after₁ after₂ r₁ r₂ h a b. settled-output _ before₁ before₂ h (a .leaves) (rw h (b .leaves));
   one-view = λ kind today c tag at n₁ n₂ p₁ p₂ part₁ part₂ bytes₁ bytes₂ a b. (
     a .shows .number-is ∙ sym (b .shows .number-is),
@@ -49,7 +52,7 @@ nine-of l m h k e = by-entries 9 l h ∙ ap entriesOf e ∙ sym (by-entries 9 m 
 pub settled-for-c : SettledForC
 settled-for-c = record {
   one-check = λ kind today c before₁ before₂ after₁ after₂ n₁ n₂ p₁ p₂ m₁ m₂ l₁ l₂ y h a b.
-      let (e, f) = one-answer y h (a .answers) (b .answers) in
+      let (e, f) = settled .one-check kind today c before₁ before₂ after₁ after₂ _ _ y h (a .answers) (b .answers) in
       (ap (λ (r : Checked). r .verdict .number) e, ap (λ (r : Checked). r .verdict .place) e, ap (λ (r : Checked). r .room) e, ap (λ (r : Checked). r .length) e, f);
   one-write = λ kind today s before₁ before₂ after₁ after₂ n₁ n₂ p₁ p₂ l₁ l₂ h a b.
       let e = settled .one-write kind today s before₁ before₂ after₁ after₂ _ _ h (a .answers) (b .answers) in

@@ -5,6 +5,8 @@ ghost use mathlib.Core.Option.{some};
 ghost use Prim.Native.Nat.{_<_, _≤_};
 ghost use lib.ListN.{length};
 ghost use Rattle.laws.specs.Room.{laid, Put};
+ghost use Rattle.verdicts.specs.Verdicts.{numberOf};
+ghost use Rattle.verdicts.specs.declared.Fault.the-variants.{SmallRoom};
 ghost use Rattle.kinds.specs.Tables.{table};
 ghost use Rattle.container.specs.Container.{largest};
 ghost use Rattle.container.specs.Map.{Inside, rowValues};
@@ -13,7 +15,6 @@ ghost use Rattle.sheet.specs.Keeping.{Kept};
 ghost use Rattle.sheet.specs.Calls.{Given, Says};
 use container::Map;
 use verdicts::Done;
-use verdicts::Fault;
 use verdicts::Outcome;
 use verdicts::Verdict;
 
@@ -71,6 +72,17 @@ fn put_sheet(kind: u64, c: &[u8], map: Map, out: &mut [u8]) -> usize
     size
 }
 
+// 3: the room is too small, and nothing was written.
+fn too_small() -> Done
+    ensures { λ r. ⌜ r ≡ record { number = numberOf SmallRoom; place = 0; length = 0 } ⌝ }
+{
+    Done {
+        number: 3,
+        place: 0,
+        length: 0,
+    }
+}
+
 // The sheet of what the map shows, and zeros behind it: 0 and its length; or 3 and zeros alone. An empty room asks for no sheet:
 // it is too small for any, and nothing is written.
 fn give_sheet(kind: u64, c: &[u8], map: Map, out: &mut [u8]) -> Done
@@ -78,12 +90,12 @@ fn give_sheet(kind: u64, c: &[u8], map: Map, out: &mut [u8]) -> Done
     ensures { λ r. ⌜ Given (sheetOf (rowValues (map .from) (map .to) (now (c .entry)) (length (table kind)) 0)) (now (out .entry)) (now (out .exit)) (r .number) (r .length) ⌝ }
 {
     if out.len() == 0 {
-        return verdicts::refused(verdicts::found(Fault::SmallRoom, 0));
+        return too_small();
     }
     let size = put_sheet(kind, c, map, out);
     room::clear(&mut out[size..]);
     if size == 0 {
-        return verdicts::refused(verdicts::found(Fault::SmallRoom, 0));
+        return too_small();
     }
     verdicts::wrote(size)
 }

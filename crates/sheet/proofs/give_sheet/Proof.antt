@@ -6,11 +6,6 @@ use mathlib.Core.List.{List, []}
 use native.Mathlib.Omega.{arith}
 use lib.ListN.{length}
 use Rattle.laws.proofs.Rooms.{no-room, filled-none, laid-filled}
-use Rattle.verdicts.specs.Verdicts.{numberOf, found}
-use Rattle.verdicts.specs.Output.{refusal, doneOf}
-use Rattle.verdicts.specs.declared.Fault.the-variants.{SmallRoom}
-use Rattle.verdicts.specs.declared.Finding.{Finding}
-use Rattle.verdicts.specs.declared.Done.{Done}
 use Rattle.kinds.specs.Tables.{table}
 use Rattle.container.specs.Map.{rowValues}
 use Rattle.sheet.specs.Sheet.{sheetOf}
@@ -27,16 +22,11 @@ all s = let a = s .args in sheetOf (rowValues (a .map .from) (a .map .to) (a .c 
 not-empty : (s : tie.Start) → 0 < length (all s)
 not-empty s = let a = s .args in some-shown (a .map .from) (a .map .to) (a .c .now) (length (table (a .kind))) (s .pre .2)
 
--- a refusal's number and length
-three : {f : Finding} {r : Done} → r ≡ doneOf (refusal f) → f ≡ found SmallRoom 0 → (r .number ≡ numberOf SmallRoom) × (r .length ≡ 0)
-three e g = (rw (e, g), rw e)
-
 returns : tie.Need-returns
 returns c =
-    let t = c .before .before in
+    let t = c .before in
     let s = t .before .before .before in
-    let (n, z) = three (c .refused .ensures) (c .before .found .ensures) in
-    short (omega (arith, t .if1 .taken, not-empty s)) n z (no-room (s .args .out .now) (t .if1 .taken))
+    short (omega (arith, t .if1 .taken, not-empty s)) (rw (c .too-small .ensures)) (rw (c .too-small .ensures)) (no-room (s .args .out .now) (t .if1 .taken))
 
 module _ (p : tie.After-put-sheet) where
   abbrev s : tie.Start
@@ -47,15 +37,14 @@ module _ (p : tie.After-put-sheet) where
 
 returns-2 : tie.Need-returns-2
 returns-2 c =
-    let t = c .before .before in
+    let t = c .before in
     let z = t .before .before .before in
     let p = z .before .before .before .before in
     let e = p .put-sheet .last .1 .1 .1 .0 in
     let q : length e ≡ length (s p .args .out .now) = omega arith in
     let l : length (s p .args .out .now) < length (all (s p)) =
     ⊎-elim (λ w. w .0) (λ w. absurd (omega (arith, w .1, t .if2 .taken, not-empty (s p)))) (p .put-sheet .ensures .0) in
-    let (n, k) = three (c .refused2 .ensures) (c .before .found2 .ensures) in
-    short l n k (laid-filled [] e refl (t .if2 .taken) (omega arith) (z .clear .ensures) ∙ sym (filled-none (length e)) ∙ rw q)
+    short l (rw (c .too-small2 .ensures)) (rw (c .too-small2 .ensures)) (laid-filled [] e refl (t .if2 .taken) (omega arith) (z .clear .ensures) ∙ sym (filled-none (length e)) ∙ rw q)
 
 returns-3 : tie.Need-returns-3
 returns-3 c =
@@ -71,13 +60,11 @@ give-sheet-spec =
     tie.close
     (tie.spec
     (λ c κs. search needs)
-    (λ c κs. search needs)
     returns
     (λ c κs. search needs)
     (λ c. omega (arith, inside (c .before .before)))
     (λ c. omega (arith, inside (c .before .before)))
     (λ c. search needs)
-    (λ c κs. search needs)
     (λ c κs. search needs)
     (λ c κs. search needs)
     (λ c. search needs)
