@@ -114,8 +114,12 @@ static int tell(uint64_t kind, uint64_t today, size_t size) {
         if (!written_back(kind, today, length, size)) off = 1;
     }
 
-    // The kind is one of the eleven here, or the report would have been refused.
+    // With an empty room, whose pointer is not null either, the same call gives the verdict alone: 3 beside a 0.
     uint64_t place, offset;
+    number = prosianek_check(kind, today, container, size, sheet, 0, &place, &room, &length);
+    if (number != verdict || place != where || (room == PROSIANEK_SMALL_ROOM) != (verdict == PROSIANEK_DONE)) off = 1;
+
+    // The kind is one of the eleven here, or the report would have been refused.
     number = prosianek_view(kind, today, container, size, tags[kind], &place, &offset, &length);
     if (number != verdict || place != where) off = 1;
     if (number != PROSIANEK_DONE) {

@@ -5,6 +5,7 @@ ghost use lib.ListN.{length, drop};
 ghost use Rattle.laws.specs.Room.{Put};
 ghost use Rattle.lengths.specs.Length.{lengthAt, lengthBytes};
 use room::put_byte;
+use room::put_pair;
 
 // What stands where a length is due.
 pub enum Length {
@@ -57,14 +58,10 @@ pub fn write_length(n: usize, out: &mut [u8]) -> usize
         return put_byte(n as u8, out);
     }
     if n < 256 {
-        let mut at = put_byte(0x81, out);
-        at += put_byte(n as u8, &mut out[at..]);
-        return at;
+        return put_pair(0x81, n as u8, out);
     }
-    let mut at = put_byte(0x82, out);
-    at += put_byte((n / 256 % 256) as u8, &mut out[at..]);
-    at += put_byte((n % 256) as u8, &mut out[at..]);
-    at
+    let at = put_byte(0x82, out);
+    at + put_pair((n / 256 % 256) as u8, (n % 256) as u8, &mut out[at..])
 }
 
 // How many bytes that is. A caller's sums want that it is one to three.

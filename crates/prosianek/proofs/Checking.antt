@@ -1,7 +1,7 @@
 -- What a check says, computed; its verdict; and what stands beside that. Assumes nothing.
 use Prim.Native.Nat.{ℕ}
 use mathlib.Core.Logic.{inl, inr}
-use mathlib.Core.Path.{_≡_, refl, sym, ap, _∙_}
+use mathlib.Core.Path.{_≡_, refl, sym, _∙_}
 use mathlib.Core.Bool.{cond}
 use mathlib.Core.List.{List, []}
 use lib.Dec.{ltb}
@@ -15,12 +15,12 @@ use Rattle.verdicts.specs.Verdicts.{verdictOf}
 use Rattle.verdicts.specs.declared.Outcome.the-variants.{Fine, Broken}
 use Rattle.verdicts.specs.declared.Verdict.{Verdict}
 use Rattle.container.specs.Container.{Values, Conforms}
-use Rattle.container.specs.Reading.{Parsed, values, fault, parsed, outcomeOf, outcome}
+use Rattle.container.specs.Reading.{Parsed, values, fault, parsed, outcome}
 use Rattle.container.proofs.Exact.{no-values}
 use Rattle.container.proofs.Named.{named-back}
 use Rattle.container.proofs.Promise.{exact, unique, named}
 use Rattle.sheet.specs.Sheet.{sheetOf}
-use Rattle.sheet.specs.Calls.{Given, short, fits, Says, breaks, conforms}
+use Rattle.sheet.specs.Calls.{Given, short, fits, breaks, conforms}
 use Rattle.sheet.specs.declared.Checked.{Checked}
 use Rattle.prosianek.specs.Calls.{Judges, Checks}
 
@@ -61,25 +61,21 @@ module _ {kind today : ℕ} {c before after : List ℕ} {r : Checked} (b : Bytes
   module _ (h : Checks kind today c before after r) where
     -- and the only one
     pub only : (r ≡ answer (parsed kind today c) (length before)) × (after ≡ filled (output (parsed kind today c) (length before)) (length before))
-    only = go (h .says)
-      where
-        go : Says kind today c before after r → (r ≡ answer (parsed kind today c) (length before)) × (after ≡ filled (output (parsed kind today c) (length before)) (length before))
-        go (breaks f n a z) = rw (named-back kind today f c b n) (a, z ∙ filled-none (length before))
-        go (conforms vs k e (short s m l z)) =
-            rw (exact kind today c b vs .1 k, lt-ltb (length before) (length (sheetOf vs)) s) (joined e m l, z ∙ filled-none (length before))
-        go (conforms vs k e (fits s m l z)) = rw (exact kind today c b vs .1 k, le-ltb (length before) (length (sheetOf vs)) s) (joined e m l, z)
+    only = elim (h .says) [
+      | breaks f n a z ↦ rw (named-back kind today f c b n) (a, z ∙ filled-none (length before))
+      | conforms vs k e g ↦ elim g [
+        | short s m l z ↦ rw (exact kind today c b vs .1 k, lt-ltb (length before) (length (sheetOf vs)) s) (joined e m l, z ∙ filled-none (length before))
+        | fits s m l z ↦ rw (exact kind today c b vs .1 k, le-ltb (length before) (length (sheetOf vs)) s) (joined e m l, z)
+      ]
+    ]
 
     -- its verdict is that of the bytes
     pub judged : Judges kind today c (r .verdict)
     unfolding outcome
-    judged = record { answer = ap (λ (r : Checked). r .verdict) (only .0) ∙ go (parsed kind today c) }
-      where
-        go : (p : Parsed (List ℕ)) → answer p (length before) .verdict ≡ verdictOf (outcomeOf p)
-        go (fault f) = refl
-        go (values vs) = elim (which (ltb (length before) (length (sheetOf vs)))) [
-          | inl q ↦ rw q
-          | inr q ↦ rw q
-        ]
+    judged = elim (h .says) [
+      | breaks f n a z ↦ record { answer = rw (a, named-back kind today f c b n) }
+      | conforms vs k e g ↦ record { answer = e ∙ rw (exact kind today c b vs .1 k) }
+    ]
 
     -- beside it stands what the values of bytes that conform give
     pub given : (vs : Values) → Conforms kind today vs c → Given (sheetOf vs) before after (r .room) (r .length)

@@ -14,16 +14,13 @@ returns c =
 returns-2 : tie.Need-returns-2
 returns-2 c =
     let k = c .before .before in
-    let j = k .before .before .before .before in
-    rw (in-two (j .before .before .before .before .before .args .n) (omega arith) (omega arith)) (then (j .put-byte2 .ensures) (k .put-byte3 .ensures))
+    rw (in-two (k .before .before .before .before .before .args .n) (omega arith) (omega arith)) (k .put-pair .ensures)
 
 returns-3 : tie.Need-returns-3
 returns-3 c =
     let k = c .before .before in
     let j = k .before .before .before .before in
-    let i = j .before .before .before .before in
-    rw (in-three (i .before .before .before .before .before .args .n) (omega arith))
-    (then (then (i .put-byte4 .ensures) (j .put-byte5 .ensures)) (k .put-byte6 .ensures))
+    rw (in-three (j .before .before .before .before .before .args .n) (omega arith)) (then (j .put-byte2 .ensures) (k .put-pair2 .ensures))
 
 pub write-length-spec : {M : Type 1} → statement M
 write-length-spec =
@@ -33,20 +30,10 @@ write-length-spec =
     (λ c κs. search needs)
     (λ c. search needs)
     returns
-    (λ c κs. search needs)
-    (λ c. search needs)
-    (λ c. search needs)
-    (λ c. search needs)
     (λ c. search needs)
     (λ c κs. search needs)
-    (λ c. search needs)
     (λ c. search needs)
     returns-2
-    (λ c κs. search needs)
-    (λ c. search needs)
-    (λ c. search needs)
-    (λ c. search needs)
-    (λ c. search needs)
     (λ c κs. search needs)
     (λ c. search needs)
     (λ c. search needs)
