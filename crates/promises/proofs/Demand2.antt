@@ -90,8 +90,8 @@ given-fits (fits s m l z) q = m
 
 module _ {kind today : ℕ} {c before after : List ℕ} {r : Checked} where
   -- a room that suffices gets the sheet
-  sheet-whole : Bytes c → Checks kind today c before after r → r .verdict .number ≡ 0 → r .room ≡ 0 → (vs : Values) × Conforms kind today vs c × (take (r .length) after ≡ sheetOf vs)
-  sheet-whole b h n z = elim (h .says) [
+  sheet-whole : Checks kind today c before after r → r .verdict .number ≡ 0 → r .room ≡ 0 → (vs : Values) × Conforms kind today vs c × (take (r .length) after ≡ sheetOf vs)
+  sheet-whole h n z = elim (h .says) [
     | breaks f k a q ↦ absurd (never-zero (f .fault) (rw a at n))
     | conforms vs k a g ↦ (vs, k, given-0 g z)
   ]
@@ -142,7 +142,7 @@ module _ (kind today : ℕ) where
       → (before₂ after₂ : List ℕ) (r₂ : Done) → Writes kind today (take (r .length) after) before₂ after₂ r₂ → length c ≤ length before₂
       → (r₂ .number ≡ 0) × (take (r₂ .length) after₂ ≡ c)
   there c before after r b h n z before₂ after₂ r₂ k l =
-      let (vs, f, t) = sheet-whole b h n z in
+      let (vs, f, t) = sheet-whole h n z in
       gave before₂ (rw t (read-write kind today c b vs f (length before₂) l)) (k .leaves)
 
   back : (s before after : List ℕ) (r : Done) → Bytes s → Writes kind today s before after r → r .number ≡ 0
@@ -210,12 +210,12 @@ demand-2 = record {
       let (vs, f) = exactly-when kind today c b .0 (rw (judged b h .answer) at z) in
       room-3 b h .1 (vs, f, conforming-some kind today vs c f);
   no-sheet = λ kind today c before after r h. no-sheet (h .says);
-  sheet-values = λ kind today c before after r b h n z.
-      let (vs, f, t) = sheet-whole b h n z in
+  sheet-values = λ kind today c before after r h n z.
+      let (vs, f, t) = sheet-whole h n z in
       (vs, f, rw t (conforming-sheet kind today vs c f));
   write-values = writes;
   accepted-when = accepts;
-  room-for-sheet = λ kind today c before after r b h. room-for-sheet (h .says);
+  room-for-sheet = λ kind today c before after r h. room-for-sheet (h .says);
   read-then-write = there;
   write-then-read = back;
   view-value = λ kind today c b vs h i t o e v q at number place part bytes a. shown kind today c t (element-view kind today c b vs h i e v q) a;

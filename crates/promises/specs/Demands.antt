@@ -1,6 +1,7 @@
 -- The user's three demands, in the user's order and words, as statements about the six calls of the door (`Checks`, `Writes`, `Views`, `Reports`,
--- `Decodes`, `Encodes`: what a call answers and leaves; `Judges`: the verdict that a check gives). Each is a record of statements, and `proofs/` has the theorem for each: `demand-1`,
--- `demand-2`, `demand-3`; `at-the-desk`, the third of what the desk program prints; `settled` and `settled-for-c`, that no answer is left open.
+-- `Decodes`, `Encodes`: what a call answers and leaves; `Judges`: the verdict that a check gives). Each is a record of statements, and `proofs/` has the
+-- theorem for each: `demand-1`, `demand-2`, `demand-3`; `at-the-desk`, the third of what the desk program prints; `settled` and `settled-for-c`, that no
+-- answer is left open.
 --
 -- A room is `before` when it is lent and `after` when it comes back. `Bytes c` says that each number of c is below 256, as it is in every slice that a
 -- program can give.
@@ -117,7 +118,7 @@ pub record Demand2 : Type 0 where
   pub no-sheet : (kind today : ℕ) (c before after : List ℕ) (r : Checked) → Checks kind today c before after r
       → (r .verdict .number ≡ 0 → ⊥) ⊎ (r .room ≡ 0 → ⊥) → (r .length ≡ 0) × (after ≡ zeros (length before))
   -- a sheet that was read holds the container's values, and a container that was written has the sheet's
-  pub sheet-values : (kind today : ℕ) (c before after : List ℕ) (r : Checked) → Bytes c → Checks kind today c before after r → r .verdict .number ≡ 0 → r .room ≡ 0
+  pub sheet-values : (kind today : ℕ) (c before after : List ℕ) (r : Checked) → Checks kind today c before after r → r .verdict .number ≡ 0 → r .room ≡ 0
       → (vs : Values) × Conforms kind today vs c × IsSheet (table kind) vs (take (r .length) after)
   pub write-values : (kind today : ℕ) (s before after : List ℕ) (r : Done) → Bytes s → Writes kind today s before after r → r .number ≡ 0
       → (vs : Values) × IsSheet (table kind) vs s × Conforms kind today vs (take (r .length) after)
@@ -125,7 +126,7 @@ pub record Demand2 : Type 0 where
   pub accepted-when : (kind today : ℕ) (s before after : List ℕ) (r : Done) → Bytes s → Writes kind today s before after r
       → (r .number ≡ 0) ↔ ((vs : Values) × (c : List ℕ) × IsSheet (table kind) vs s × Conforms kind today vs c × (length c ≤ length before))
   -- a room with six bytes more than the container takes its sheet, and so one of 32,774 takes any
-  pub room-for-sheet : (kind today : ℕ) (c before after : List ℕ) (r : Checked) → Bytes c → Checks kind today c before after r → length c + 6 ≤ length before → r .room ≡ 0
+  pub room-for-sheet : (kind today : ℕ) (c before after : List ℕ) (r : Checked) → Checks kind today c before after r → length c + 6 ≤ length before → r .room ≡ 0
   -- "Writing the values that were read gives the container back byte for byte"
   pub read-then-write : (kind today : ℕ) (c before after : List ℕ) (r : Checked) → Bytes c → Checks kind today c before after r → r .verdict .number ≡ 0 → r .room ≡ 0
       → (before₂ after₂ : List ℕ) (r₂ : Done) → Writes kind today (take (r .length) after) before₂ after₂ r₂ → length c ≤ length before₂
