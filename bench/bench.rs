@@ -7,8 +7,9 @@
 //!
 //! All go over the same cases in the same order, for each first Prosianek, then Rust.
 
-use second::card::{all_kinds, kind_of, Rule};
+use second::card::{all_kinds, kind_of, Rule, CONFORMS};
 use second::generate::{certificate_kinds, endless_row};
+use second::tag_number;
 use second::trees::{certificate_of_pairs, Tree};
 use std::arch::asm;
 use std::ops::{Deref, DerefMut};
@@ -144,49 +145,50 @@ impl DerefMut for Bytes {
     }
 }
 
-/// The numbers that Prosianek answers.
+/// The numbers that Prosianek answers; 0 for those that the call does not have.
 fn prosianek(case: &Case, room: &mut [u8], meter: &mut impl Meter) -> Vec<u64> {
     let (kind, input, size) = (case.kind, case.input.as_ptr(), case.input.len());
     let (to, room_size) = (room.as_mut_ptr(), room.len());
-    let (mut place, mut short, mut length, mut numbers) = (0, 0, 0, [0; 9]);
-    let (p, s, l) = (&mut place as *mut u64, &mut short as *mut u64, &mut length as *mut u64);
+    let (mut place, mut tag, mut short, mut length, mut numbers) = (0, 0, 0, 0, [0; 9]);
+    let (p, t): (*mut u64, *mut u64) = (&mut place, &mut tag);
+    let (s, l): (*mut u64, *mut u64) = (&mut short, &mut length);
     let number = unsafe {
         match case.call {
-            Call::Check => meter.measure(|| prosianek_check(kind, TODAY, input, size, to, room_size, p, s, l)),
-            Call::Write => meter.measure(|| prosianek_write(kind, TODAY, input, size, to, room_size, p, l)),
+            Call::Check => meter.measure(|| prosianek_check(kind, TODAY, input, size, to, room_size, p, t, s, l)),
+            Call::Write => meter.measure(|| prosianek_write(kind, TODAY, input, size, to, room_size, p, t, l)),
             Call::Report => meter.measure(|| prosianek_report(kind, TODAY, input, size, to, room_size, l)),
             Call::Decode => meter.measure(|| prosianek_fascn_decode(input, size, &mut numbers)),
             Call::Encode => meter.measure(|| prosianek_fascn_encode(&case.numbers, to, room_size)),
         }
     };
-    [&[number, place, short, length], &numbers[..]].concat()
+    [&[number, place, tag, short, length], &numbers[..]].concat()
 }
 
 /// The numbers that the Rust program answers, in the same layout.
 fn rust(case: &Case, room: &mut [u8], meter: &mut impl Meter) -> Vec<u64> {
     let (kind, input) = (case.kind, &case.input[..]);
     let mut numbers = [0; 9];
-    let (number, place, short, length) = match case.call {
+    let (number, place, tag, short, length) = match case.call {
         Call::Check => {
             let checked = meter.measure(|| second::check(kind, TODAY, input, room));
-            (checked.number, checked.place, checked.room, checked.length)
+            (checked.number, checked.place, tag_number(checked.tag), checked.room, checked.length)
         }
         Call::Write => {
-            let (number, place, length) = meter.measure(|| second::write(kind, TODAY, input, room));
-            (number, place, 0, length)
+            let ((number, place, tag), length) = meter.measure(|| second::write(kind, TODAY, input, room));
+            (number, place, tag_number(tag), 0, length)
         }
         Call::Report => {
             let (number, length) = meter.measure(|| second::report(kind, TODAY, input, room));
-            (number, 0, 0, length)
+            (number, 0, 0, 0, length)
         }
         Call::Decode => {
             let (number, decoded) = meter.measure(|| second::fascn_decode(input));
             numbers = decoded;
-            (number, 0, 0, 0)
+            (number, 0, 0, 0, 0)
         }
-        Call::Encode => (meter.measure(|| second::fascn_encode(&case.numbers, room)), 0, 0, 0),
+        Call::Encode => (meter.measure(|| second::fascn_encode(&case.numbers, room)), 0, 0, 0, 0),
     };
-    [&[number, place, short, length], &numbers[..]].concat()
+    [&[number, place, tag, short, length], &numbers[..]].concat()
 }
 
 /// Both answer 0 and the same, and leave the same in rooms that held something before. A check without a room, and no other call,
@@ -196,7 +198,9 @@ fn agree(case: &Case) {
     let answers = (prosianek(case, &mut one, &mut Made), rust(case, &mut other, &mut Made));
     assert!(answers.0 == answers.1 && one[..] == other[..], "{} {}: the answers differ: {:?}", case.what, case.name, answers);
     let short = if case.name == NO_ROOM { 3 } else { 0 };
-    assert!(answers.0[..3] == [0, 0, short], "{} {}: refused with {:?}", case.what, case.name, &answers.0[..3]);
+    let tag = if matches!(case.call, Call::Check | Call::Write) { second::NO_TAG } else { 0 };
+    let said = &answers.0[..4];
+    assert!(said == [0, 0, tag, short], "{} {}: refused with {:?}", case.what, case.name, said);
 }
 
 // ---------------------------------------------------------------------------------------------
@@ -225,8 +229,8 @@ fn container_of(kind: u64, values: &Values) -> Vec<u8> {
         sheet.extend(value.iter().flatten());
     }
     let mut room = vec![0; LARGEST];
-    let (number, place, length) = second::write(kind, TODAY, &sheet, &mut room);
-    assert!(number == 0, "kind {}: no conforming sheet: {} at {}", kind, number, place);
+    let (verdict, length) = second::write(kind, TODAY, &sheet, &mut room);
+    assert!(verdict == CONFORMS, "kind {}: no conforming sheet: {:?}", kind, verdict);
     room.truncate(length as usize);
     room
 }
@@ -234,7 +238,7 @@ fn container_of(kind: u64, values: &Values) -> Vec<u8> {
 fn values_of(kind: u64, container: &[u8]) -> Values {
     let rows = kind_of(kind).unwrap().rows;
     let value = |tag| match second::view(kind, TODAY, container, tag) {
-        (0, _, value) => Some(value.to_vec()),
+        (CONFORMS, value) => Some(value.to_vec()),
         _ => None,
     };
     rows.iter().map(|row| value(u64::from(row.tag))).collect()
@@ -346,7 +350,7 @@ fn item_cases(items: usize) -> Vec<Case> {
 
 fn fascn_cases() -> Vec<Case> {
     let chuid = sample(CHUID);
-    let (_, _, fascn) = second::view(CHUID, TODAY, &chuid, 0x30);
+    let (_, fascn) = second::view(CHUID, TODAY, &chuid, 0x30);
     let (_, numbers) = second::fascn_decode(fascn);
     let case = |name, call, room| Case {
         what: "FASC-N, 25 bytes".to_string(),

@@ -3,7 +3,7 @@
 // in libprosianek.a, which links into x86-64 programs and needs only the C library's memory functions:
 //     cc program.c $(pkg-config --cflags --libs prosianek)
 //
-// What is proved: every call ends and answers, whatever the bytes, dates, tags and sizes are; number, place, length and
+// What is proved: every call ends and answers, whatever the bytes, dates, tags and sizes are; number, place, tag, length and
 // each byte of a lent room are what the contract says. The caller need not have checked anything. The calls keep nothing
 // from one call to the next.
 //
@@ -37,7 +37,9 @@ enum {
     PROSIANEK_LARGEST_CONTAINER = 32768,
     // A room of this size holds the sheet of any container: a sheet has at most 6 bytes more than its container, which is
     // proved (`room-for-sheet` in crates/promises/specs/Demands.antt).
-    PROSIANEK_SHEET_ROOM = 32774
+    PROSIANEK_SHEET_ROOM = 32774,
+    // What stands for no tag in a verdict. No tag can be it, since a tag has one byte or two; 0 is the tag 00.
+    PROSIANEK_NO_TAG = 65536
 };
 
 // The kinds of container. Every other number is refused.
@@ -86,6 +88,16 @@ enum prosianek_number {
 
 // In all calls: kind is one of enum prosianek_kind; today is a date as an eight-digit number, such as 20260301; container
 // and size are the container's bytes and how many there are, from the outer tag on.
+//
+// A verdict is a number, a place and a tag. The tag says which element is meant, as a number such as 0x30, or 0x5F2F for the tag
+// of two bytes; where none is meant it is PROSIANEK_NO_TAG. By the verdict's number:
+//   - 0, and 1 to 8: no tag;
+//   - 10, and 11 and 12 of the outer length: no tag;
+//   - 15 of a container: the tag found in the place of the missing one; no tag at the container's end, where nothing is found;
+//   - 13: the byte at the place, whatever the card has there, such as 0x00, or 0x5F where no 2F follows;
+//   - every other number of a container: the tag at the place;
+//   - every number of a sheet from 15 on: the tag of the row at the place, also of one that is missing.
+// In a report the tag is the last word of the line `verdict`: two hex digits, four for the tag of two bytes, or `--`.
 
 // Whether a container conforms under the date, and the value sheet of one that does: for each row of the kind's table, in order,
 // a two-byte count, high byte first, which is 0 for an absent element and n + 1 for a value of n bytes, and then the n bytes.
@@ -93,32 +105,36 @@ enum prosianek_number {
 //            0 the verdict alone is asked for: it does not depend on the room.
 //   place    where the first broken rule is: the offset of the element's tag in the container; for 15 of the tag found
 //            instead, or the container's end; 0 for 1, 2, 4, for a broken outer tag or length, and when it conforms.
+//   tag      that of the verdict, as listed above: PROSIANEK_NO_TAG where the place is 0 or the container's end, else the tag
+//            that stands at the place.
 //   room     3 if it conforms and the room is under the sheet's length, as one of size 0 always is; else 0.
 //   length   the sheet's length; 0 where none is written.
 // Answers the verdict: 0 if it conforms; else 1, 2, 4, or the first broken rule, 10 to 25. Where it is 0 and *room is 0 too, the
 // room then holds the sheet and zeros; else all zeros.
 uint64_t prosianek_check(uint64_t kind, uint64_t today, const uint8_t *container, size_t size, uint8_t *sheet,
-                         size_t sheet_size, uint64_t *place, uint64_t *room, uint64_t *length);
+                         size_t sheet_size, uint64_t *place, uint64_t *tag, uint64_t *room, uint64_t *length);
 
 // The container of a value sheet. A sheet that prosianek_check gave is written back byte for byte.
 //   sheet    the sheet, size its bytes.
 //   container  the lent room, room its size.
 //   place    where the first broken rule is: the offset in the sheet of the row's count; 0 for 1 to 5 and on a success.
+//   tag      that of the verdict, as listed above: the row's tag for 15 to 25; PROSIANEK_NO_TAG for 1 to 5 and on a success.
 //   length   the container's length; 0 on a refusal.
 // Answers 0 if the container is written; else 1, 2, 5, then row by row 15, 16 or the value's rule, 17 to 25, then 4, then 3
 // if the room is under the container's length. The room then holds the container and zeros; on a refusal all zeros.
 uint64_t prosianek_write(uint64_t kind, uint64_t today, const uint8_t *sheet, size_t size, uint8_t *container, size_t room,
-                         uint64_t *place, uint64_t *length);
+                         uint64_t *place, uint64_t *tag, uint64_t *length);
 
 // Where the value of one element stands in a container that conforms.
-//   tag      the element's tag as a number, such as 0x30; 0x5F2F for the tag of two bytes.
+//   element  the tag of the element that is wanted, as a number, such as 0x30; 0x5F2F for the tag of two bytes.
 //   place    as prosianek_check gives it; 0 for 6.
+//   tag      as prosianek_check gives it, whichever element is wanted; PROSIANEK_NO_TAG for 6 and on a success.
 //   offset   where the value starts in the container; 0 on a refusal.
 //   length   its length, which may be 0; 0 on a refusal.
-// Answers 0 if the element is there; else what prosianek_check answers, or 6 if the element is absent or the tag not of the
+// Answers 0 if the element is there; else what prosianek_check answers, or 6 if the element is absent or its tag not of the
 // kind. offset + length is at most size.
-uint64_t prosianek_view(uint64_t kind, uint64_t today, const uint8_t *container, size_t size, uint64_t tag, uint64_t *place,
-                        uint64_t *offset, uint64_t *length);
+uint64_t prosianek_view(uint64_t kind, uint64_t today, const uint8_t *container, size_t size, uint64_t element,
+                        uint64_t *place, uint64_t *tag, uint64_t *offset, uint64_t *length);
 
 // The desk report of a container, as text, each line ended by a line feed, with no zero byte at its end. It has no personal
 // value.

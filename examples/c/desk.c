@@ -13,7 +13,7 @@
 
 #include "prosianek.h"
 
-// The element of each kind that is viewed.
+// The tag of the element of each kind that is viewed.
 static const uint64_t tags[] = {
     [PROSIANEK_CCC] = 0xF5,      [PROSIANEK_CHUID] = 0x30,    [PROSIANEK_DISCOVERY] = 0x5F2F, [PROSIANEK_PRINTED] = 0x06,
     [PROSIANEK_SECURITY] = 0xBA, [PROSIANEK_FINGERS] = 0xBC,  [PROSIANEK_FACE] = 0xBC,        [PROSIANEK_PIVAUTH] = 0x70,
@@ -35,8 +35,21 @@ static int number_of(const char *word, uint64_t *number) {
     return 1;
 }
 
-static void refused(const char *call, uint64_t number, uint64_t place) {
-    printf("%s: number %" PRIu64 ", place %" PRIu64 "\n", call, number, place);
+struct verdict {
+    uint64_t number, place, tag;
+};
+
+static int same(struct verdict one, struct verdict other) {
+    return one.number == other.number && one.place == other.place && one.tag == other.tag;
+}
+
+// Two hyphens stand for no tag, as in the report.
+static void refused(const char *call, struct verdict v) {
+    printf("%s: number %" PRIu64 ", place %" PRIu64 ", tag ", call, v.number, v.place);
+    if (v.tag == PROSIANEK_NO_TAG)
+        printf("--\n");
+    else
+        printf("%02" PRIX64 "\n", v.tag);
 }
 
 // Decodes a FASC-N and encodes it again; whether it came back.
@@ -45,13 +58,13 @@ static int there_and_back(const uint8_t *fascn, size_t size) {
     uint8_t room[PROSIANEK_FASCN_BYTES];
     uint64_t number = prosianek_fascn_decode(fascn, size, numbers);
     if (number != PROSIANEK_DONE) {
-        refused("decode", number, 0);
+        refused("decode", (struct verdict){number, 0, PROSIANEK_NO_TAG});
         return 0;
     }
     printf("decode: agency %04" PRIu64 ", system %04" PRIu64 "\n", numbers[0], numbers[1]);
     number = prosianek_fascn_encode(numbers, room, sizeof room);
     if (number != PROSIANEK_DONE) {
-        refused("encode", number, 0);
+        refused("encode", (struct verdict){number, 0, PROSIANEK_NO_TAG});
         return 0;
     }
     if (size != sizeof room || memcmp(room, fascn, sizeof room) != 0) {
@@ -64,10 +77,11 @@ static int there_and_back(const uint8_t *fascn, size_t size) {
 
 // Writes the container of the sheet; whether it is the one that the sheet was read from.
 static int written_back(uint64_t kind, uint64_t today, size_t sheet_length, size_t size) {
-    uint64_t place, length;
-    uint64_t number = prosianek_write(kind, today, sheet, sheet_length, written, sizeof written, &place, &length);
-    if (number != PROSIANEK_DONE) {
-        refused("write", number, place);
+    struct verdict v;
+    uint64_t length;
+    v.number = prosianek_write(kind, today, sheet, sheet_length, written, sizeof written, &v.place, &v.tag, &length);
+    if (v.number != PROSIANEK_DONE) {
+        refused("write", v);
         return 0;
     }
     if (length != size || memcmp(written, container, size) != 0) {
@@ -88,6 +102,22 @@ static int read_file(const char *name, size_t *size) {
     return whole;
 }
 
+// Views an element; whether the answer fits the check's. A container that breaks a rule has no values to view: the view then
+// answers as the check does.
+static int viewed(uint64_t kind, uint64_t today, size_t size, struct verdict said) {
+    struct verdict v;
+    uint64_t offset, length;
+    // The kind is one of the eleven here, or the report would have been refused.
+    v.number = prosianek_view(kind, today, container, size, tags[kind], &v.place, &v.tag, &offset, &length);
+    if (v.number != PROSIANEK_DONE) {
+        refused("view", v);
+        return same(v, said);
+    }
+    printf("view: tag %02" PRIX64 " has %" PRIu64 " bytes at %" PRIu64 "\n", tags[kind], length, offset);
+    if (kind == PROSIANEK_CHUID && !there_and_back(container + offset, length)) return 0;
+    return same(v, said);
+}
+
 // Prints what the calls say of the container; 0 if it conforms, else 1.
 static int tell(uint64_t kind, uint64_t today, size_t size) {
     uint64_t length;
@@ -99,13 +129,13 @@ static int tell(uint64_t kind, uint64_t today, size_t size) {
     fwrite(report, 1, length, stdout);
     printf("\n");
 
-    // One call gives the verdict and the sheet, whose room is large enough for any. A container that breaks a rule has no values
-    // to read or view: the view then answers as the check does.
+    // One call gives the verdict and the sheet, whose room is large enough for any.
     int off = 0;
-    uint64_t where, room;
-    uint64_t verdict = prosianek_check(kind, today, container, size, sheet, sizeof sheet, &where, &room, &length);
-    if (verdict != PROSIANEK_DONE) {
-        refused("check", verdict, where);
+    struct verdict said, again;
+    uint64_t room;
+    said.number = prosianek_check(kind, today, container, size, sheet, sizeof sheet, &said.place, &said.tag, &room, &length);
+    if (said.number != PROSIANEK_DONE) {
+        refused("check", said);
     } else if (room != PROSIANEK_DONE) {
         printf("check: conforms, without room for its sheet\n");
         off = 1;
@@ -115,20 +145,10 @@ static int tell(uint64_t kind, uint64_t today, size_t size) {
     }
 
     // With an empty room, whose pointer is not null either, the same call gives the verdict alone: 3 beside a 0.
-    uint64_t place, offset;
-    number = prosianek_check(kind, today, container, size, sheet, 0, &place, &room, &length);
-    if (number != verdict || place != where || (room == PROSIANEK_SMALL_ROOM) != (verdict == PROSIANEK_DONE)) off = 1;
-
-    // The kind is one of the eleven here, or the report would have been refused.
-    number = prosianek_view(kind, today, container, size, tags[kind], &place, &offset, &length);
-    if (number != verdict || place != where) off = 1;
-    if (number != PROSIANEK_DONE) {
-        refused("view", number, place);
-    } else {
-        printf("view: tag %02" PRIX64 " has %" PRIu64 " bytes at %" PRIu64 "\n", tags[kind], length, offset);
-        if (kind == PROSIANEK_CHUID && !there_and_back(container + offset, length)) off = 1;
-    }
-    return off || verdict != PROSIANEK_DONE;
+    again.number = prosianek_check(kind, today, container, size, sheet, 0, &again.place, &again.tag, &room, &length);
+    if (!same(again, said) || (room == PROSIANEK_SMALL_ROOM) != (said.number == PROSIANEK_DONE)) off = 1;
+    if (!viewed(kind, today, size, said)) off = 1;
+    return off || said.number != PROSIANEK_DONE;
 }
 
 int main(int count, char **words) {

@@ -1,6 +1,6 @@
-// The refusals, across the border: each call answers its number, and leaves the room that it was lent all zeros, whatever
-// stood there before. tests/linking runs it. It prints a line for each answer that is not as it should be, and then the
-// count of calls; the exit status is 0 only if all are right.
+// The refusals, across the border: each call answers its number, its place and its tag, and leaves the room that it was lent
+// all zeros, whatever stood there before. tests/linking runs it. It prints a line for each answer that is not as it should be,
+// and then the count of calls; the exit status is 0 only if all are right.
 #include <inttypes.h>
 #include <stdio.h>
 #include <string.h>
@@ -28,18 +28,23 @@ static const uint8_t too_deep[31] = {
     0x30, 0x04, 0x30, 0x02, 0x05, 0x00, 0x05, 0x00, 0x05, 0x00, 0x71, 0x01, 0x00, 0xFE, 0x00,
 };
 
+// A discovery object that conforms. Its second tag, at 15, has two bytes.
+static const uint8_t discovery[20] = {
+    0x7E, 0x12, 0x4F, 0x0B, 0xA0, 0x00, 0x00, 0x03, 0x08, 0x00, 0x00, 0x10, 0x00, 0x01, 0x00, 0x5F, 0x2F, 0x02, 0x40, 0x00,
+};
+
 static const uint8_t too_large[PROSIANEK_LARGEST_CONTAINER + 1];
 
 // What the calls are lent. The room is longer than any size that is lent of it, so that a byte written behind it shows.
 static uint8_t room[1024];
-static uint64_t place, beside, offset, length, numbers[9];
+static uint64_t place, tag, beside, offset, length, numbers[9];
 
 static int calls, bad;
 
 // Before each call: something stale in everything that is lent.
 static void stale(void) {
     memset(room, STALE, sizeof room);
-    place = beside = offset = length = STALE;
+    place = tag = beside = offset = length = STALE;
     for (int i = 0; i < 9; i++) numbers[i] = STALE;
 }
 
@@ -52,6 +57,13 @@ static void answers(const char *what, uint64_t number, uint64_t expected) {
     calls++;
     if (number == expected) return;
     printf("%s: number %" PRIu64 ", expected %" PRIu64 "\n", what, number, expected);
+    bad = 1;
+}
+
+// What the call's verdict names: a place and a tag. Most refusals name neither.
+static void names(const char *what, uint64_t where, uint64_t which) {
+    if (place == where && tag == which) return;
+    printf("%s: place %" PRIu64 ", tag %" PRIX64 ", expected %" PRIu64 ", %" PRIX64 "\n", what, place, tag, where, which);
     bad = 1;
 }
 
@@ -74,8 +86,9 @@ static void check(const char *what, uint64_t kind, uint64_t today, const uint8_t
                   uint64_t expected) {
     uint64_t room_number = expected == PROSIANEK_DONE ? PROSIANEK_SMALL_ROOM : PROSIANEK_DONE;
     stale();
-    answers(what, prosianek_check(kind, today, c, size, room, lent, &place, &beside, &length), expected);
-    if (place != 0 || length != 0) wrong(what, "a place or a length");
+    answers(what, prosianek_check(kind, today, c, size, room, lent, &place, &tag, &beside, &length), expected);
+    names(what, 0, PROSIANEK_NO_TAG);
+    if (length != 0) wrong(what, "a length");
     if (beside != room_number) wrong(what, "another number beside the verdict");
     leaves(what, 0, lent);
 }
@@ -89,16 +102,18 @@ static void refuses(const char *what, uint64_t kind, uint64_t today, const uint8
 static void write(const char *what, uint64_t kind, uint64_t today, const uint8_t *s, size_t size, size_t lent,
                   uint64_t expected) {
     stale();
-    answers(what, prosianek_write(kind, today, s, size, room, lent, &place, &length), expected);
-    if (place != 0 || length != 0) wrong(what, "a place or a length");
+    answers(what, prosianek_write(kind, today, s, size, room, lent, &place, &tag, &length), expected);
+    names(what, 0, PROSIANEK_NO_TAG);
+    if (length != 0) wrong(what, "a length");
     leaves(what, 0, lent);
 }
 
-static void view(const char *what, uint64_t kind, uint64_t today, const uint8_t *c, size_t size, uint64_t tag,
+static void view(const char *what, uint64_t kind, uint64_t today, const uint8_t *c, size_t size, uint64_t element,
                  uint64_t expected) {
     stale();
-    answers(what, prosianek_view(kind, today, c, size, tag, &place, &offset, &length), expected);
-    if (place != 0 || offset != 0 || length != 0) wrong(what, "a place, an offset or a length");
+    answers(what, prosianek_view(kind, today, c, size, element, &place, &tag, &offset, &length), expected);
+    names(what, 0, PROSIANEK_NO_TAG);
+    if (offset != 0 || length != 0) wrong(what, "an offset or a length");
 }
 
 static void report(const char *what, uint64_t kind, uint64_t today, const uint8_t *c, size_t size, size_t lent,
@@ -109,34 +124,82 @@ static void report(const char *what, uint64_t kind, uint64_t today, const uint8_
     leaves(what, 0, lent);
 }
 
-// A container that breaks a rule of a value: check, with a room and without one, and view all answer its number and its place.
-static void breaks(const char *what, uint64_t kind, const uint8_t *c, size_t size, uint64_t expected, uint64_t where) {
+// A container that breaks a rule: check, with a room and without one, and view all answer its number, its place and its tag. The
+// view asks for an element that no container here has: what it names is not that.
+static void breaks(const char *what, uint64_t kind, const uint8_t *c, size_t size, uint64_t expected, uint64_t where,
+                   uint64_t which) {
     for (size_t lent = 0; lent <= 100; lent += 100) {
         stale();
-        answers(what, prosianek_check(kind, TODAY, c, size, room, lent, &place, &beside, &length), expected);
-        if (place != where || length != 0) wrong(what, "another place of check, or a length");
+        answers(what, prosianek_check(kind, TODAY, c, size, room, lent, &place, &tag, &beside, &length), expected);
+        names(what, where, which);
+        if (length != 0) wrong(what, "a length");
         if (beside != PROSIANEK_DONE) wrong(what, "a number beside a broken rule");
         leaves(what, 0, lent);
     }
     stale();
-    answers(what, prosianek_view(kind, TODAY, c, size, 0x70, &place, &offset, &length), expected);
-    if (place != where || offset != 0 || length != 0) wrong(what, "another place of view, an offset or a length");
+    answers(what, prosianek_view(kind, TODAY, c, size, 0x08, &place, &tag, &offset, &length), expected);
+    names(what, where, which);
+    if (offset != 0 || length != 0) wrong(what, "an offset or a length");
+}
+
+// The same of a container in which one byte is another.
+static void breaks_at(const char *what, uint64_t kind, const uint8_t *c, size_t size, size_t at, uint8_t byte,
+                      uint64_t expected, uint64_t where, uint64_t which) {
+    uint8_t changed[100];
+    memcpy(changed, c, size);
+    changed[at] = byte;
+    breaks(what, kind, changed, size, expected, where, which);
+}
+
+// A verdict names the tag that was found, whatever should be there: 30 stands at 2, 34 at 29, 35 at 47, 3E at 57 and FE at 59.
+static void elements(void) {
+    const uint64_t kind = PROSIANEK_CHUID, two = PROSIANEK_DISCOVERY;
+    breaks_at("a check character", kind, chuid, sizeof chuid, 28, 0xEA, PROSIANEK_BAD_FASCN, 2, 0x30);
+    breaks_at("a tag 00", kind, chuid, sizeof chuid, 29, 0x00, PROSIANEK_UNKNOWN_TAG, 29, 0x00);
+    breaks_at("30 twice", kind, chuid, sizeof chuid, 29, 0x30, PROSIANEK_TAG_ORDER, 29, 0x30);
+    breaks_at("35 for 34", kind, chuid, sizeof chuid, 29, 0x35, PROSIANEK_MISSING_ROW, 29, 0x35);
+    breaks_at("34 with 17 bytes", kind, chuid, sizeof chuid, 30, 0x11, PROSIANEK_ELEMENT_LENGTH, 29, 0x34);
+    breaks_at("34 with a length of 80", kind, chuid, sizeof chuid, 30, 0x80, PROSIANEK_LENGTH_FORM, 29, 0x34);
+    breaks_at("3E past the end", kind, chuid, sizeof chuid, 58, 0x03, PROSIANEK_OVERRUN, 57, 0x3E);
+    breaks_at("no FE", kind, chuid, sizeof chuid - 2, 1, 0x39, PROSIANEK_MISSING_ROW, 59, PROSIANEK_NO_TAG);
+    breaks_at("another outer tag", kind, chuid, sizeof chuid, 0, 0x30, PROSIANEK_OUTER_TAG, 0, PROSIANEK_NO_TAG);
+    breaks_at("an outer length of 80", kind, chuid, sizeof chuid, 1, 0x80, PROSIANEK_LENGTH_FORM, 0, PROSIANEK_NO_TAG);
+    breaks_at("another outer length", kind, chuid, sizeof chuid, 1, 0x3A, PROSIANEK_OVERRUN, 0, PROSIANEK_NO_TAG);
+    breaks_at("a policy", two, discovery, sizeof discovery, 18, 0x60, PROSIANEK_BAD_FIXED, 15, 0x5F2F);
+    breaks_at("5F without 2F", two, discovery, sizeof discovery, 16, 0x2E, PROSIANEK_UNKNOWN_TAG, 15, 0x5F);
+}
+
+// A sheet in which one count is another one, so that its row breaks a rule: the verdict names the row.
+static void row(const char *what, const uint8_t *s, size_t size, size_t at, uint8_t count, uint64_t expected, uint64_t which) {
+    uint8_t changed[100];
+    memcpy(changed, s, size);
+    changed[at + 1] = count;
+    for (size_t lent = 0; lent <= 100; lent += 100) {
+        stale();
+        answers(what, prosianek_write(PROSIANEK_CHUID, TODAY, changed, size, room, lent, &place, &tag, &length), expected);
+        names(what, at, which);
+        if (length != 0) wrong(what, "a length");
+        leaves(what, 0, lent);
+    }
+}
+
+// Of a sheet with all counts 0 every mandatory row is missing, and the first is named; FE's count stands at 65 of a whole one.
+static void rows(const uint8_t *sheet) {
+    static const uint8_t none[18];
+    row("write, no rows", none, sizeof none, 2, 0, PROSIANEK_MISSING_ROW, 0x30);
+    row("write, an empty 30", none, sizeof none, 2, 1, PROSIANEK_ELEMENT_LENGTH, 0x30);
+    row("write, an empty EE", none, sizeof none, 0, 1, PROSIANEK_ELEMENT_LENGTH, 0xEE);
+    row("write, no FE", sheet, SHEET_BYTES, 65, 0, PROSIANEK_MISSING_ROW, 0xFE);
 }
 
 // A certificate that conforms, and the same with a byte changed.
 static void certificates(uint64_t kind) {
-    uint8_t changed[sizeof certificate];
+    const size_t size = sizeof certificate;
     check("check, a certificate, no room", kind, TODAY, certificate, sizeof certificate, 0, PROSIANEK_DONE);
-    breaks("an item at level 9", kind, too_deep, sizeof too_deep, PROSIANEK_TOO_DEEP, 2);
-    memcpy(changed, certificate, sizeof changed);
-    changed[4] = 0x31;
-    breaks("a SET for a certificate", kind, changed, sizeof changed, PROSIANEK_BAD_DER, 2);
-    memcpy(changed, certificate, sizeof changed);
-    changed[6] = 0x1F;
-    breaks("a tag of number 31", kind, changed, sizeof changed, PROSIANEK_BAD_DER, 2);
-    memcpy(changed, certificate, sizeof changed);
-    changed[14] = 0x01;
-    breaks("71 of 01", kind, changed, sizeof changed, PROSIANEK_BAD_FIXED, 12);
+    breaks("an item at level 9", kind, too_deep, sizeof too_deep, PROSIANEK_TOO_DEEP, 2, 0x70);
+    breaks_at("a SET for a certificate", kind, certificate, size, 4, 0x31, PROSIANEK_BAD_DER, 2, 0x70);
+    breaks_at("a tag of number 31", kind, certificate, size, 6, 0x1F, PROSIANEK_BAD_DER, 2, 0x70);
+    breaks_at("71 of 01", kind, certificate, size, 14, 0x01, PROSIANEK_BAD_FIXED, 12, 0x71);
     view("view, no 72", kind, TODAY, certificate, sizeof certificate, 0x72, PROSIANEK_NO_ELEMENT);
 }
 
@@ -157,9 +220,10 @@ int main(void) {
     // A sheet to write from. This call succeeds, and leaves zeros after the sheet.
     static uint8_t sheet[SHEET_BYTES + 1];
     stale();
-    answers("check", prosianek_check(PROSIANEK_CHUID, TODAY, chuid, sizeof chuid, room, 100, &place, &beside, &length),
+    answers("check", prosianek_check(PROSIANEK_CHUID, TODAY, chuid, sizeof chuid, room, 100, &place, &tag, &beside, &length),
             PROSIANEK_DONE);
-    if (place != 0 || beside != PROSIANEK_DONE || length != SHEET_BYTES) wrong("check", "not the sheet's length");
+    names("check", 0, PROSIANEK_NO_TAG);
+    if (beside != PROSIANEK_DONE || length != SHEET_BYTES) wrong("check", "not the sheet's length");
     leaves("check", SHEET_BYTES, 100);
     memcpy(sheet, room, SHEET_BYTES);
 
@@ -202,6 +266,8 @@ int main(void) {
     view("view, of another kind", PROSIANEK_CHUID, TODAY, chuid, sizeof chuid, 0xBC, PROSIANEK_NO_ELEMENT);
     view("view, no tag at all", PROSIANEK_CHUID, TODAY, chuid, sizeof chuid, UINT64_MAX, PROSIANEK_NO_ELEMENT);
 
+    elements();
+    rows(sheet);
     for (uint64_t kind = PROSIANEK_PIVAUTH; kind <= PROSIANEK_CARDAUTH; kind++) certificates(kind);
 
     // Each of the nine numbers with one digit too many; that comes before the room.

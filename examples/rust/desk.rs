@@ -8,7 +8,7 @@ use prosianek::Refused;
 use std::io::{self, Write};
 use std::process::exit;
 
-/// The element of each kind that is viewed.
+/// The tag of the element of each kind that is viewed.
 fn tag_of(kind: u64) -> u64 {
     match kind {
         prosianek::CCC => 0xF5,
@@ -30,7 +30,13 @@ fn number_of(word: &str) -> Option<u64> {
 }
 
 fn refused(out: &mut impl Write, call: &str, r: Refused) -> io::Result<()> {
-    writeln!(out, "{call}: number {}, place {}", r.number, r.place)
+    // two hyphens for no tag, as in the report
+    let tag = r.tag.map_or("--".to_string(), |tag| format!("{tag:02X}"));
+    writeln!(
+        out,
+        "{call}: number {}, place {}, tag {tag}",
+        r.number, r.place
+    )
 }
 
 fn main() {
@@ -69,8 +75,7 @@ fn tell(out: &mut impl Write, kind: u64, today: u64, container: &[u8]) -> io::Re
     }
     writeln!(out)?;
 
-    // One call gives the verdict and the sheet, whose room is large enough for any. A container that breaks a rule has no values
-    // to read or view: the view then answers as the check does.
+    // One call gives the verdict and the sheet, whose room is large enough for any.
     let mut off = false;
     let mut sheet = vec![0; prosianek::SHEET_ROOM];
     let verdict = prosianek::check(kind, today, container, &mut sheet);
@@ -89,20 +94,32 @@ fn tell(out: &mut impl Write, kind: u64, today: u64, container: &[u8]) -> io::Re
     // With an empty room the same call gives the verdict alone.
     off |= prosianek::check(kind, today, container, &mut []) != verdict.map(|_| None);
 
-    let tag = tag_of(kind);
-    let view = prosianek::view(kind, today, container, tag);
-    off |= view.clone().err() != verdict.err();
-    match view {
-        Err(r) => refused(out, "view", r)?,
+    off |= !viewed(out, kind, today, container, verdict.err())?;
+    Ok(!off && verdict.is_ok())
+}
+
+/// Views an element; whether the answer fits the check's. A container that breaks a rule has no values to view: the view then
+/// answers as the check does.
+fn viewed(
+    out: &mut impl Write,
+    kind: u64,
+    today: u64,
+    container: &[u8],
+    said: Option<Refused>,
+) -> io::Result<bool> {
+    let element = tag_of(kind);
+    match prosianek::view(kind, today, container, element) {
+        Err(r) => {
+            refused(out, "view", r)?;
+            Ok(said == Some(r))
+        }
         Ok(range) => {
             let (length, start) = (range.len(), range.start);
-            writeln!(out, "view: tag {tag:02X} has {length} bytes at {start}")?;
-            if kind == prosianek::CHUID {
-                off |= !there_and_back(out, &container[range])?;
-            }
+            writeln!(out, "view: tag {element:02X} has {length} bytes at {start}")?;
+            let back = kind != prosianek::CHUID || there_and_back(out, &container[range])?;
+            Ok(back && said.is_none())
         }
     }
-    Ok(!off && verdict.is_ok())
 }
 
 /// Writes the container of a sheet; whether it is the one that the sheet was read from.

@@ -26,12 +26,16 @@ pub const FASCN_BYTES: usize = 25;
 pub const LARGEST_CONTAINER: usize = 32_768;
 /// A room of this size holds the sheet of any container.
 pub const SHEET_ROOM: usize = 32_774;
+/// What prosianek_check, prosianek_write and prosianek_view write for no tag, which no tag can be. Refused has None for it.
+pub const NO_TAG: u64 = 65_536;
 
-/// A refusal: its number, as include/prosianek.h lists them, and the place of the first broken rule.
+/// A refusal: its number, as include/prosianek.h lists them, the place of the first broken rule, and the tag of the element that
+/// is meant, such as 0x30 or 0x5F2F. The header says which numbers carry a tag.
 #[derive(Clone, Copy, Debug, PartialEq, Eq)]
 pub struct Refused {
     pub number: u64,
     pub place: u64,
+    pub tag: Option<u64>,
 }
 
 // The functions themselves, as the header declares them.
@@ -45,6 +49,7 @@ extern "C" {
         sheet: *mut u8,
         sheet_size: usize,
         place: *mut u64,
+        tag: *mut u64,
         room: *mut u64,
         length: *mut u64,
     ) -> u64;
@@ -56,6 +61,7 @@ extern "C" {
         container: *mut u8,
         room: usize,
         place: *mut u64,
+        tag: *mut u64,
         length: *mut u64,
     ) -> u64;
     pub fn prosianek_view(
@@ -63,8 +69,9 @@ extern "C" {
         today: u64,
         container: *const u8,
         size: usize,
-        tag: u64,
+        element: u64,
         place: *mut u64,
+        tag: *mut u64,
         offset: *mut u64,
         length: *mut u64,
     ) -> u64;
@@ -84,11 +91,12 @@ extern "C" {
 // In each unsafe block below: every pointer with its size is that of a slice, every other pointer that of a number or an
 // array of this function, and the exclusive references are distinct.
 
-fn answer<T>(number: u64, place: u64, value: T) -> Result<T, Refused> {
+fn answer<T>(number: u64, place: u64, tag: u64, value: T) -> Result<T, Refused> {
     if number == 0 {
         Ok(value)
     } else {
-        Err(Refused { number, place })
+        let tag = (tag != NO_TAG).then(|| tag);
+        Err(Refused { number, place, tag })
     }
 }
 
@@ -102,7 +110,7 @@ pub fn check(
     container: &[u8],
     sheet: &mut [u8],
 ) -> Result<Option<usize>, Refused> {
-    let (mut place, mut room, mut length) = (0, 0, 0);
+    let (mut place, mut tag, mut room, mut length) = (0, 0, 0, 0);
     let number = unsafe {
         prosianek_check(
             kind,
@@ -112,17 +120,18 @@ pub fn check(
             sheet.as_mut_ptr(),
             sheet.len(),
             &mut place,
+            &mut tag,
             &mut room,
             &mut length,
         )
     };
-    answer(number, place, (room == 0).then(|| length as usize))
+    answer(number, place, tag, (room == 0).then(|| length as usize))
 }
 
 /// Writes the container of a value sheet into the room and gives its length. A refusal's place is that of the row's count in
-/// the sheet.
+/// the sheet, and its tag is the row's.
 pub fn write(kind: u64, today: u64, sheet: &[u8], container: &mut [u8]) -> Result<usize, Refused> {
-    let (mut place, mut length) = (0, 0);
+    let (mut place, mut tag, mut length) = (0, 0, 0);
     let number = unsafe {
         prosianek_write(
             kind,
@@ -132,38 +141,45 @@ pub fn write(kind: u64, today: u64, sheet: &[u8], container: &mut [u8]) -> Resul
             container.as_mut_ptr(),
             container.len(),
             &mut place,
+            &mut tag,
             &mut length,
         )
     };
-    answer(number, place, length as usize)
+    answer(number, place, tag, length as usize)
 }
 
-/// Where the value of the element with this tag stands in a container that conforms. The range lies within the container, so
-/// that `&container[range]` is the value.
+/// Where the value of the element with the tag `element` stands in a container that conforms. The range lies within the
+/// container, so that `&container[range]` is the value. A refusal is that of check, with its tag, or 6, which has none.
 pub fn view(
     kind: u64,
     today: u64,
     container: &[u8],
-    tag: u64,
+    element: u64,
 ) -> Result<std::ops::Range<usize>, Refused> {
-    let (mut place, mut offset, mut length) = (0, 0, 0);
+    let (mut place, mut tag, mut offset, mut length) = (0, 0, 0, 0);
     let number = unsafe {
         prosianek_view(
             kind,
             today,
             container.as_ptr(),
             container.len(),
-            tag,
+            element,
             &mut place,
+            &mut tag,
             &mut offset,
             &mut length,
         )
     };
-    answer(number, place, offset as usize..(offset + length) as usize)
+    answer(
+        number,
+        place,
+        tag,
+        offset as usize..(offset + length) as usize,
+    )
 }
 
 /// Writes the desk report of a container into the room and gives its length. A container that breaks a rule gets a report,
-/// too; a refusal's place is 0.
+/// too; a refusal's place is 0, and it has no tag.
 pub fn report(kind: u64, today: u64, container: &[u8], room: &mut [u8]) -> Result<usize, Refused> {
     let mut length = 0;
     let number = unsafe {
@@ -177,18 +193,18 @@ pub fn report(kind: u64, today: u64, container: &[u8], room: &mut [u8]) -> Resul
             &mut length,
         )
     };
-    answer(number, 0, length as usize)
+    answer(number, 0, NO_TAG, length as usize)
 }
 
 /// The nine numbers of a FASC-N: agency, system, credential, series, issue, person, category, organisation, association.
 pub fn decode(bytes: &[u8]) -> Result<[u64; 9], Refused> {
     let mut numbers = [0; 9];
     let number = unsafe { prosianek_fascn_decode(bytes.as_ptr(), bytes.len(), &mut numbers) };
-    answer(number, 0, numbers)
+    answer(number, 0, NO_TAG, numbers)
 }
 
 /// Writes the FASC-N of nine numbers into the room, 25 bytes.
 pub fn encode(numbers: &[u64; 9], room: &mut [u8]) -> Result<(), Refused> {
     let number = unsafe { prosianek_fascn_encode(numbers, room.as_mut_ptr(), room.len()) };
-    answer(number, 0, ())
+    answer(number, 0, NO_TAG, ())
 }

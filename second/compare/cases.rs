@@ -52,7 +52,7 @@ impl Names {
 
     fn record(&self, call: &str, asked: &[&str]) -> Outcome<Record> {
         let (kind, today) = (number(asked.first())?, number(asked.get(1))?);
-        let record = |call, tag, room, bytes| Record { call, kind, today, tag, room, fill: 0xFF, bytes };
+        let record = |call, element, room, bytes| Record { call, kind, today, element, room, fill: 0xFF, bytes };
         let room = || number(asked.get(2)).map(|room| room as usize);
         Ok(match call {
             "verdict" => record(Call::Check, 0, 0, self.bytes(&asked[2..])?),
@@ -64,8 +64,13 @@ impl Names {
     }
 
     fn answer(&self, call: &str, record: &Record, told: &[&str]) -> Outcome<Answer> {
-        let answer = Answer { number: number(told.first())?, place: number(told.get(1))?, ..Answer::default() };
-        match (call, &told[2..]) {
+        let answer = Answer {
+            number: number(told.first())?,
+            place: number(told.get(1))?,
+            tag: tag(told.get(2))?,
+            ..Answer::default()
+        };
+        match (call, &told[3..]) {
             // no room is lent: it is too short for a sheet, which is told beside a 0 only
             ("verdict", []) => Ok(Answer { short: if answer.number == 0 { 3 } else { 0 }, ..answer }),
             ("merged", [short, output @ ..]) => {
@@ -122,6 +127,19 @@ fn number(word: Option<&&str>) -> Outcome<u64> {
 fn hex_number(word: Option<&&str>) -> Outcome<u64> {
     let word = word.ok_or("a tag is missing")?;
     u64::from_str_radix(word, 16).map_err(|_| format!("no tag: {}", word))
+}
+
+/// A verdict's tag as a report has it: two hex digits, four for a tag of two bytes, or two hyphens for none.
+fn tag(word: Option<&&str>) -> Outcome<Option<u16>> {
+    if word == Some(&"--") {
+        return Ok(None);
+    }
+    let tag = hex_number(word)?;
+    let written = format!("{:01$X}", tag, if tag > 0xFF { 4 } else { 2 });
+    match u16::try_from(tag) {
+        Ok(tag) if word == Some(&&written[..]) => Ok(Some(tag)),
+        _ => Err(format!("no tag of a verdict: {}", written)),
+    }
 }
 
 fn hex(digits: &str) -> Outcome<Vec<u8>> {

@@ -3,14 +3,20 @@
 
 use crate::trial::{Fault, Trial};
 use second::batch::{Answer, Call, Record};
+use second::card::CONFORMS;
 use second::generate::{certificate_kinds, EXAMPLE_DAY};
 use second::samples::certificate;
 use second::trees::Tree;
 use second::values::CERTIFICATE_LEVELS;
-use second::{number, REPORT_MAX};
+use second::{number, Verdict, REPORT_MAX};
 
 /// So many calls that answer something else are shown.
 const SHOWN: usize = 5;
+
+fn text((number, place, tag): Verdict) -> String {
+    let tag = tag.map_or("--".to_string(), |tag| format!("{:02X}", tag));
+    format!("{} {} {}", number, place, tag)
+}
 
 struct Judging {
     trial: Trial,
@@ -21,36 +27,36 @@ struct Judging {
 
 impl Judging {
     /// Makes a call on both sides. The verdict is as given, and all else is as the second program says.
-    fn call(&mut self, what: &str, record: &Record, number: u64, place: u64) -> Answer {
+    fn call(&mut self, what: &str, record: &Record, expected: Verdict) -> Answer {
         self.calls += 1;
         let answer = record.answer();
-        let told = if (answer.number, answer.place) == (number, place) {
+        let verdict = (answer.number, answer.place, answer.tag);
+        let told = if verdict == expected {
             let outcome = self.trial.run(record, &answer, &Fault::None);
             outcome.err().map(|wrong| self.trial.tell(record, wrong))
         } else {
-            Some(format!("the second program answers {} {}", answer.number, answer.place))
+            Some(format!("the second program answers {}", text(verdict)))
         };
         if let Some(told) = told {
             self.wrong += 1;
             if self.wrong <= SHOWN {
-                println!("{}, expected {} {}: {}", what, number, place, told);
+                println!("{}, expected {}: {}", what, text(expected), told);
             }
         }
         answer
     }
 
-    /// Checks a value of 70 in a container of each kind, without a room. A refusal's place is where 70 stands, behind the outer
-    /// length.
+    /// Checks a value of 70 in a container of each kind, without a room. A refusal names 70, and its place is where that stands,
+    /// behind the outer length.
     fn check(&mut self, what: &str, value: &[u8], number: u64) {
         for kind in self.kinds.clone() {
             let record = given(Call::Check, kind, certificate(kind, value, 0, None).container());
             let place = match record.bytes[1] {
-                _ if number == number::DONE => 0,
                 0x81 => 3,
                 0x82 => 4,
                 _ => 2,
             };
-            self.call(what, &record, number, place);
+            self.call(what, &record, if number == number::DONE { CONFORMS } else { (number, place, Some(0x70)) });
         }
     }
 
@@ -59,15 +65,15 @@ impl Judging {
         self.check(what, value, number::DONE);
         for kind in self.kinds.clone() {
             let container = certificate(kind, value, 0, None).container();
-            let view = Record { tag: 0x70, ..given(Call::View, kind, container.clone()) };
-            assert_eq!(self.call(what, &view, 0, 0).part, value, "{}: another part", what);
+            let view = Record { element: 0x70, ..given(Call::View, kind, container.clone()) };
+            assert_eq!(self.call(what, &view, CONFORMS).part, value, "{}: another part", what);
             let report = Record { room: REPORT_MAX, ..given(Call::Report, kind, container.clone()) };
-            self.call(what, &report, 0, 0);
+            self.call(what, &report, CONFORMS);
             let check = Record { room: container.len() + 6, ..given(Call::Check, kind, container.clone()) };
-            let answer = self.call(what, &check, 0, 0);
+            let answer = self.call(what, &check, CONFORMS);
             let sheet = answer.room[..answer.length as usize].to_vec();
             let write = Record { room: container.len(), ..given(Call::Write, kind, sheet) };
-            assert_eq!(self.call(what, &write, 0, 0).room, container, "{}: not written back", what);
+            assert_eq!(self.call(what, &write, CONFORMS).room, container, "{}: not written back", what);
         }
     }
 
@@ -104,7 +110,7 @@ impl Judging {
 }
 
 fn given(call: Call, kind: u64, bytes: Vec<u8>) -> Record {
-    Record { call, kind, today: EXAMPLE_DAY, tag: 0, room: 0, fill: 0xFF, bytes }
+    Record { call, kind, today: EXAMPLE_DAY, element: 0, room: 0, fill: 0xFF, bytes }
 }
 
 /// Judges the certificate in each file, tells what is wrong, and gives whether nothing is.

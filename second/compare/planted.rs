@@ -1,9 +1,12 @@
 //! The comparison is tried itself: faults are planted in calls of every sort, one at a time, and each has to be seen at
-//! the byte where it was planted.
+//! the byte where it was planted. So are the tags that a mistaken program would name, in calls on every fault of a container or
+//! a sheet.
 
-use crate::trial::{call_text, Fault, Sort, Stretch, Trial, Wrong};
-use second::batch::{Call, Record};
+use crate::trial::{call_text, native, Fault, Sort, Stretch, Trial, Wrong};
+use second::batch::{Answer, Call, Record};
+use second::card::{kind_of, walk};
 use second::generate::{Inputs, Rng};
+use second::{faults, tag_number, NO_TAG};
 use std::collections::BTreeMap;
 use std::ops::Range;
 
@@ -14,8 +17,8 @@ const CALLS: usize = 300;
 const SHOWN: usize = 5;
 
 /// Faults are planted in each of these.
-const STRETCHES: [&str; 10] =
-    ["number", "place", "short", "offset", "length", "part", "numbers", "room", "input", "guard"];
+const STRETCHES: [&str; 11] =
+    ["number", "place", "tag", "short", "offset", "length", "part", "numbers", "room", "input", "guard"];
 
 /// A fault, in words too, and what has to be seen of it.
 type Planted = (&'static str, Fault, Wrong);
@@ -63,6 +66,65 @@ fn faults_before(stretch: &Stretch) -> Vec<Planted> {
     }
 }
 
+/// The mistakes that are made in a tag.
+const MISTAKES: [&str; 10] = [
+    "0 for none",
+    "none for 00",
+    "none for a tag",
+    "the outer tag",
+    "the missing row's",
+    "the missing row's at the end",
+    "the element's before",
+    "one byte of two",
+    "two bytes for one",
+    "the element's that is asked for",
+];
+
+/// The tag of the last element before the first fault of a container, or before the end; and that of the mandatory row which has
+/// to come next. In a sheet that is the row before the one that the verdict names.
+fn around_the_fault(record: &Record, expected: &Answer) -> (Option<u16>, Option<u16>) {
+    let table = kind_of(record.kind).expect("a kind");
+    let mut next = 0;
+    if record.call == Call::Write {
+        next = table.rows.iter().position(|row| Some(row.tag) == expected.tag).unwrap_or(0);
+    } else {
+        // it is the fault that ends the walk
+        let _ = walk(table, record.today, &record.bytes, |row, _, _| next = row + 1);
+    }
+    let before = next.checked_sub(1).map(|row| table.rows[row].tag);
+    (before, table.rows[next..].iter().find(|row| !row.optional).map(|row| row.tag))
+}
+
+/// The tags that a mistaken program would name instead of the right one, each with its mistake.
+fn mistaken_tags(record: &Record, expected: &Answer) -> Vec<(&'static str, u64)> {
+    let right = tag_number(expected.tag);
+    let mut out = match expected.tag {
+        None => vec![("0 for none", 0)],
+        Some(0) => vec![("none for 00", NO_TAG)],
+        Some(0x5F2F) => vec![("none for a tag", NO_TAG), ("one byte of two", 0x5F), ("one byte of two", 0x2F)],
+        Some(_) => vec![("none for a tag", NO_TAG)],
+    };
+    if record.call == Call::View {
+        out.push(("the element's that is asked for", record.element));
+    }
+    let (before, missing) = around_the_fault(record, expected);
+    let mut add = |how, tag: Option<u16>| out.extend(tag.map(|tag| (how, u64::from(tag))));
+    let from_place = record.bytes.get(expected.place as usize..).unwrap_or_default();
+    match (expected.number, expected.tag) {
+        (10..=12, None) => add("the outer tag", record.bytes.first().map(|&byte| u16::from(byte))),
+        (13, _) if from_place.len() > 1 => {
+            add("two bytes for one", Some(u16::from_be_bytes([from_place[0], from_place[1]])))
+        }
+        (15, Some(_)) => add("the missing row's", missing),
+        (15, None) => add("the missing row's at the end", missing),
+        _ => (),
+    }
+    add("the element's before", before);
+    // where a mistake makes no difference it is none
+    out.retain(|&(_, tag)| tag != right);
+    out
+}
+
 /// Whether every other stretch stands between guards of at least 64 bytes.
 fn guarded(stretches: &[Stretch]) -> bool {
     let mut guards = stretches.iter().step_by(2);
@@ -103,17 +165,40 @@ impl Trying {
         self.trial.run(record, &expected, &Fault::None)?;
         assert!(guarded(self.trial.stretches()), "a guard is missing: {}", call_text(record));
         for stretch in self.trial.stretches().to_vec().iter().filter(|stretch| !stretch.range.is_empty()) {
-            for (how, fault, wrong) in [faults_after(stretch, &mut self.rng), faults_before(stretch)].concat() {
-                *self.planted.entry((how, stretch.name)).or_default() += 1;
-                if self.trial.run(record, &expected, &fault) != Err(wrong) {
-                    self.unseen += 1;
-                    if self.unseen <= SHOWN {
-                        println!("not seen where it is: {}, {}\n  {}", stretch.name, how, call_text(record));
-                    }
-                }
+            for planted in [faults_after(stretch, &mut self.rng), faults_before(stretch)].concat() {
+                self.expect_seen(record, &expected, stretch.name, planted);
             }
         }
         Ok(())
+    }
+
+    /// Plants each mistaken tag of a call. Before that nothing is wrong, or it is told.
+    fn plant_tags(&mut self, record: &Record) -> Result<(), Wrong> {
+        let expected = record.answer();
+        self.trial.run(record, &expected, &Fault::None)?;
+        let range = match self.trial.stretches().iter().find(|stretch| stretch.name == "tag") {
+            Some(stretch) => stretch.range.clone(),
+            None => return Ok(()),
+        };
+        for (how, tag) in mistaken_tags(record, &expected) {
+            let (wrong, right) = (native(&[tag]), native(&[tag_number(expected.tag)]));
+            let at = range.start + wrong.iter().zip(&right).take_while(|(wrong, right)| wrong == right).count();
+            let planted = (how, Fault::Mistaken(range.clone(), tag), Wrong::Answer(at));
+            self.expect_seen(record, &expected, "tag", planted);
+        }
+        Ok(())
+    }
+
+    /// Plants one fault in the stretch of this name.
+    fn expect_seen(&mut self, record: &Record, expected: &Answer, name: &'static str, planted: Planted) {
+        let (how, fault, wrong) = planted;
+        *self.planted.entry((how, name)).or_default() += 1;
+        if self.trial.run(record, expected, &fault) != Err(wrong) {
+            self.unseen += 1;
+            if self.unseen <= SHOWN {
+                println!("not seen where it is: {}, {}\n  {}", name, how, call_text(record));
+            }
+        }
     }
 
     /// Says what was planted; gives whether all was seen, and something was planted everywhere.
@@ -123,21 +208,32 @@ impl Trying {
             let texts: Vec<String> = STRETCHES.iter().map(|&name| format!("{}:{}", name, planted(name))).collect();
             println!("  {}: {}", what, texts.join(" "));
         }
+        let mistaken = |how| self.planted.get(&(how, "tag")).copied().unwrap_or_default();
+        let texts: Vec<String> = MISTAKES.iter().map(|&how| format!("{}: {}", how, mistaken(how))).collect();
+        println!("  another tag, {}", texts.join(", "));
         println!("{} planted faults, {} unseen", self.planted.values().sum::<usize>(), self.unseen);
-        self.unseen == 0 && STRETCHES.iter().all(|&name| self.planted.keys().any(|planted| planted.1 == name))
+        self.unseen == 0
+            && STRETCHES.iter().all(|&name| self.planted.keys().any(|planted| planted.1 == name))
+            && MISTAKES.iter().all(|&how| mistaken(how) > 0)
     }
 }
 
 /// Plants the faults and gives whether all were seen.
 pub fn all_seen(seed: u64) -> bool {
     let mut trying = Trying { trial: Trial::new(!seed), rng: Rng::new(seed), planted: BTreeMap::new(), unseen: 0 };
-    let records = calls(seed);
-    for record in &records {
-        if let Err(wrong) = trying.plant(record) {
+    let (made, with_faults) = (calls(seed), faults::records());
+    let planting = made.iter().map(|record| (record, true)).chain(with_faults.iter().map(|record| (record, false)));
+    for (record, everywhere) in planting {
+        let outcome = if everywhere { trying.plant(record) } else { trying.plant_tags(record) };
+        if let Err(wrong) = outcome {
             println!("without a planted fault: {}", trying.trial.tell(record, wrong));
             return false;
         }
     }
-    println!("faults planted in {} calls of every sort, one at a time:", records.len());
+    println!(
+        "faults planted in {} calls of every sort, and tags in {} calls on broken ones, one at a time:",
+        made.len(),
+        with_faults.len()
+    );
     trying.judge()
 }

@@ -7,6 +7,7 @@
 use crate::prosianek::*;
 use second::batch::{Answer, Call, Record, BYTES_MAX, ROOM_MAX};
 use second::generate::Rng;
+use second::tag_number;
 use std::ops::Range;
 
 /// A guard has this many bytes, or a few more.
@@ -58,12 +59,14 @@ pub enum Fault {
     NoGuard(Range<usize>),
     /// After the call this byte is another one.
     Changed(usize),
+    /// After the call this lent number is another one, as a mistaken program would answer it.
+    Mistaken(Range<usize>, u64),
     /// Here another byte is expected than the right one: so what makes an answer of what is expected shows.
     Expected(usize),
 }
 
 /// Numbers as they stand in memory.
-fn native(numbers: &[u64]) -> Vec<u8> {
+pub fn native(numbers: &[u64]) -> Vec<u8> {
     numbers.iter().flat_map(|number| number.to_ne_bytes()).collect()
 }
 
@@ -77,11 +80,12 @@ fn numbers(bytes: &[u8]) -> Vec<u64> {
 fn lent(call: Call, expected: &Answer) -> Vec<(&'static str, Vec<u8>)> {
     let room = || ("room", expected.room.clone());
     let place = || ("place", native(&[expected.place]));
+    let tag = || ("tag", native(&[tag_number(expected.tag)]));
     let length = || ("length", native(&[expected.length]));
     match call {
-        Call::Check => vec![room(), place(), ("short", native(&[expected.short])), length()],
-        Call::Write => vec![room(), place(), length()],
-        Call::View => vec![place(), ("offset", native(&[expected.offset])), length()],
+        Call::Check => vec![room(), place(), tag(), ("short", native(&[expected.short])), length()],
+        Call::Write => vec![room(), place(), tag(), length()],
+        Call::View => vec![place(), tag(), ("offset", native(&[expected.offset])), length()],
         Call::Report => vec![room(), length()],
         Call::FascnDecode => vec![("numbers", native(&expected.numbers))],
         Call::FascnEncode => vec![room()],
@@ -217,14 +221,16 @@ impl Trial {
         let number = unsafe {
             match record.call {
                 Call::Check => {
-                    let (place, short, length) = (lent("place"), lent("short"), lent("length"));
-                    prosianek_check(kind, today, input, size, at("room"), room, place, short, length)
+                    let (place, tag, short, length) = (lent("place"), lent("tag"), lent("short"), lent("length"));
+                    prosianek_check(kind, today, input, size, at("room"), room, place, tag, short, length)
                 }
                 Call::Write => {
-                    prosianek_write(kind, today, input, size, at("room"), room, lent("place"), lent("length"))
+                    let (place, tag, length) = (lent("place"), lent("tag"), lent("length"));
+                    prosianek_write(kind, today, input, size, at("room"), room, place, tag, length)
                 }
                 Call::View => {
-                    prosianek_view(kind, today, input, size, record.tag, lent("place"), lent("offset"), lent("length"))
+                    let (place, tag, offset, length) = (lent("place"), lent("tag"), lent("offset"), lent("length"));
+                    prosianek_view(kind, today, input, size, record.element, place, tag, offset, length)
                 }
                 Call::Report => prosianek_report(kind, today, input, size, at("room"), room, lent("length")),
                 Call::FascnDecode => prosianek_fascn_decode(input, size, at("numbers") as *mut [u64; 9]),
@@ -323,8 +329,10 @@ impl Trial {
     }
 
     fn plant_after(&mut self, fault: &Fault) {
-        if let Fault::Changed(at) = *fault {
-            self.memory.0[at] ^= other(&mut self.rng, 0);
+        match fault.clone() {
+            Fault::Changed(at) => self.memory.0[at] ^= other(&mut self.rng, 0),
+            Fault::Mistaken(range, number) => self.memory.0[range].copy_from_slice(&native(&[number])),
+            _ => (),
         }
     }
 }
@@ -341,11 +349,11 @@ fn hex(bytes: &[u8]) -> String {
 
 pub fn call_text(record: &Record) -> String {
     format!(
-        "{}: kind {}, today {}, tag {}, room {}, input {}",
+        "{}: kind {}, today {}, element {}, room {}, input {}",
         record.call.name(),
         record.kind,
         record.today,
-        record.tag,
+        record.element,
         record.room,
         hex(&record.bytes)
     )

@@ -41,7 +41,8 @@ pub struct Record {
     pub call: Call,
     pub kind: u64,
     pub today: u64,
-    pub tag: u64,
+    /// The tag of the element that a view asks for.
+    pub element: u64,
     /// The size of the room, and what it holds before the second program's call.
     pub room: usize,
     pub fill: u8,
@@ -54,6 +55,8 @@ pub struct Record {
 pub struct Answer {
     pub number: u64,
     pub place: u64,
+    /// The tag that the verdict names. A report, a decoding and an encoding name none.
+    pub tag: Option<u16>,
     /// A check's 3 for a room that is too short, beside a verdict of 0.
     pub short: u64,
     /// Where a view's part starts in the container.
@@ -84,17 +87,18 @@ impl Record {
         let mut room = vec![self.fill; self.room];
         match self.call {
             Call::Check => {
-                let Checked { number, place, room: short, length } = card::check(kind, today, bytes, &mut room);
-                Answer { number, place, short, length, room, ..Answer::default() }
+                let Checked { number, place, tag, room: short, length } = card::check(kind, today, bytes, &mut room);
+                Answer { number, place, tag, short, length, room, ..Answer::default() }
             }
             Call::Write => {
-                let (number, place, length) = card::write(kind, today, bytes, &mut room);
-                Answer { number, place, length, room, ..Answer::default() }
+                let ((number, place, tag), length) = card::write(kind, today, bytes, &mut room);
+                Answer { number, place, tag, length, room, ..Answer::default() }
             }
             Call::View => {
-                let (number, place, part) = card::view(kind, today, bytes, self.tag);
+                let ((number, place, tag), part) = card::view(kind, today, bytes, self.element);
                 let offset = (part.as_ptr() as usize - bytes.as_ptr() as usize) as u64;
-                Answer { number, place, offset, length: part.len() as u64, part: part.to_vec(), ..Answer::default() }
+                let (length, part) = (part.len() as u64, part.to_vec());
+                Answer { number, place, tag, offset, length, part, ..Answer::default() }
             }
             Call::Report => {
                 let (number, length) = report::report(kind, today, bytes, &mut room);

@@ -4,8 +4,16 @@ use crate::values;
 use crate::{number, CONTAINER_MAX};
 use std::ops::RangeInclusive;
 
-/// A verdict's number and place.
-pub type Refusal = (u64, u64);
+/// A verdict: its number, its place, and the tag that it names, where it names one. A tag over FF has two bytes, any other has one.
+pub type Verdict = (u64, u64, Option<u16>);
+
+/// That of a container that conforms, and of a call that is done.
+pub const CONFORMS: Verdict = without_place(number::DONE);
+
+/// A number that carries no place, and so no tag.
+const fn without_place(number: u64) -> Verdict {
+    (number, 0, None)
+}
 
 /// What is asked of an element's value beyond its length.
 #[derive(Clone, Copy, Debug, PartialEq, Eq)]
@@ -56,8 +64,11 @@ impl Row {
         (self.shortest <= length && length <= self.longest) || (self.or_empty && length == 0)
     }
 
-    /// 0, or the number of the first rule that the value breaks; its length is permitted.
+    /// 0, or the number of the first rule that the value breaks: that of its length, and then its own.
     fn judge(&self, value: &[u8], today: u64) -> u64 {
+        if !self.permits(value.len()) {
+            return number::ELEMENT_LENGTH;
+        }
         let (good, number) = match self.rule {
             Rule::Any => return number::DONE,
             Rule::Exactly(bytes) => (value == bytes, number::FIXED),
@@ -223,23 +234,45 @@ impl Spans {
     }
 }
 
+/// Where the content starts, if the outer tag and length are right. What is wrong with them carries no tag.
+#[inline]
+fn content_start(kind: &Kind, container: &[u8]) -> Result<usize, u64> {
+    if container.first() != Some(&kind.outer) {
+        return Err(number::OUTER_TAG);
+    }
+    let (content, taken) = length_at(&container[1..]).ok_or(number::LENGTH_FORM)?;
+    let start = 1 + taken;
+    if content == container.len() - start {
+        Ok(start)
+    } else {
+        Err(number::PAST_END)
+    }
+}
+
+/// The row of a tag, where the rows before `next` are behind.
+#[inline]
+fn row_of(rows: &[Row], next: usize, tag: u16) -> Result<usize, u64> {
+    let here = match rows[next..].iter().position(|row| row.tag == tag) {
+        Some(skipped) => next + skipped,
+        None if rows[..next].iter().any(|row| row.tag == tag) => return Err(number::ORDER),
+        None => return Err(number::UNKNOWN_TAG),
+    };
+    if rows[next..here].iter().all(|row| row.optional) {
+        Ok(here)
+    } else {
+        Err(number::MISSING)
+    }
+}
+
 /// Goes over a container in the order of the rules and hands each conforming element on as its
 /// row, start and end of value; gives the first broken rule. 1, 2 and 4 are judged before.
 #[inline]
-pub fn walk<F>(kind: &'static Kind, today: u64, container: &[u8], mut element: F) -> Result<(), Refusal>
+pub fn walk<F>(kind: &'static Kind, today: u64, container: &[u8], mut element: F) -> Result<(), Verdict>
 where
     F: FnMut(usize, usize, usize),
 {
-    if container.first() != Some(&kind.outer) {
-        return Err((number::OUTER_TAG, 0));
-    }
-    let (content, taken) = length_at(&container[1..]).ok_or((number::LENGTH_FORM, 0))?;
-    let mut at = 1 + taken;
+    let mut at = content_start(kind, container).map_err(without_place)?;
     let end = container.len();
-    if content != end - at {
-        return Err((number::PAST_END, 0));
-    }
-
     let rows = kind.rows;
     let mut next = 0;
     while at < end {
@@ -248,47 +281,38 @@ where
             [0x5F, 0x2F, ..] if kind.outer == 0x7E => (0x5F2F, 2),
             _ => (u16::from(container[at]), 1),
         };
-        let here = match rows[next..].iter().position(|row| row.tag == tag) {
-            Some(skipped) => next + skipped,
-            None if rows[..next].iter().any(|row| row.tag == tag) => {
-                return Err((number::ORDER, place));
-            }
-            None => return Err((number::UNKNOWN_TAG, place)),
-        };
-        if rows[next..here].iter().any(|row| !row.optional) {
-            return Err((number::MISSING, place));
-        }
+        // whatever is wrong from here on is named by the tag found, also where another was expected or where it is none
+        let broken = |number| (number, place, Some(tag));
+        let here = row_of(rows, next, tag).map_err(broken)?;
         at += tag_bytes;
-        let (length, taken) = length_at(&container[at..]).ok_or((number::LENGTH_FORM, place))?;
+        let (length, taken) = length_at(&container[at..]).ok_or(broken(number::LENGTH_FORM))?;
         at += taken;
         if length > end - at {
-            return Err((number::PAST_END, place));
+            return Err(broken(number::PAST_END));
         }
-        if !rows[here].permits(length) {
-            return Err((number::ELEMENT_LENGTH, place));
-        }
-        let verdict = rows[here].judge(&container[at..at + length], today);
-        if verdict != number::DONE {
-            return Err((verdict, place));
+        let number = rows[here].judge(&container[at..at + length], today);
+        if number != number::DONE {
+            return Err(broken(number));
         }
         element(here, at, at + length);
         at += length;
         next = here + 1;
     }
     if rows[next..].iter().any(|row| !row.optional) {
-        return Err((number::MISSING, end as u64));
+        // nothing was found here that could be named
+        return Err((number::MISSING, end as u64, None));
     }
     Ok(())
 }
 
 /// All that check asks, before the elements go to `element`.
-fn checked<F>(kind: u64, today: u64, container: &[u8], element: F) -> Result<&'static Kind, Refusal>
+fn checked<F>(kind: u64, today: u64, container: &[u8], element: F) -> Result<&'static Kind, Verdict>
 where
     F: FnMut(usize, usize, usize),
 {
-    let kind = admit(kind, today).map_err(|number| (number, 0))?;
+    let kind = admit(kind, today).map_err(without_place)?;
     if container.len() > CONTAINER_MAX {
-        return Err((number::TOO_LONG, 0));
+        return Err(without_place(number::TOO_LONG));
     }
     walk(kind, today, container, element)?;
     Ok(kind)
@@ -297,9 +321,10 @@ where
 /// What check answers.
 #[derive(Clone, Copy, Debug, PartialEq, Eq)]
 pub struct Checked {
-    /// The verdict's number and place.
+    /// The verdict's number, place and tag.
     pub number: u64,
     pub place: u64,
+    pub tag: Option<u16>,
     /// 3 beside a verdict of 0 where the room is shorter than the sheet; else 0.
     pub room: u64,
     /// The length of the sheet; 0 where none was written.
@@ -315,13 +340,13 @@ pub fn check(kind: u64, today: u64, container: &[u8], room: &mut [u8]) -> Checke
         spans.set(row, start, end);
         values += end - start;
     });
-    let ((number, place), short, length) = match outcome {
-        Err(refusal) => (refusal, number::DONE, 0),
-        Ok(kind) if room.len() < 2 * kind.rows.len() + values => ((number::DONE, 0), number::ROOM, 0),
-        Ok(kind) => ((number::DONE, 0), number::DONE, put_sheet(kind, &spans, container, room)),
+    let ((number, place, tag), short, length) = match outcome {
+        Err(broken) => (broken, number::DONE, 0),
+        Ok(kind) if room.len() < 2 * kind.rows.len() + values => (CONFORMS, number::ROOM, 0),
+        Ok(kind) => (CONFORMS, number::DONE, put_sheet(kind, &spans, container, room)),
     };
     room[length..].fill(0);
-    Checked { number, place, room: short, length: length as u64 }
+    Checked { number, place, tag, room: short, length: length as u64 }
 }
 
 /// Writes the sections of a conforming container's sheet into a room that suffices, and gives the length of them all.
@@ -344,47 +369,27 @@ fn put_sheet(kind: &Kind, spans: &Spans, container: &[u8], room: &mut [u8]) -> u
     at
 }
 
-/// Writes the container that a value sheet describes: number, place, length of the container. Zeros are behind it, or in the
-/// whole room after a refusal.
-pub fn write(kind: u64, today: u64, sheet: &[u8], room: &mut [u8]) -> (u64, u64, u64) {
-    let ((number, place), length) = match try_write(kind, today, sheet, room) {
-        Ok(length) => ((number::DONE, 0), length),
+/// Writes the container that a value sheet describes: the verdict, and the length of the container. Zeros are behind it, or in
+/// the whole room after a refusal.
+pub fn write(kind: u64, today: u64, sheet: &[u8], room: &mut [u8]) -> (Verdict, u64) {
+    let (verdict, length) = match try_write(kind, today, sheet, room) {
+        Ok(length) => (CONFORMS, length),
         Err(refusal) => (refusal, 0),
     };
     room[length..].fill(0);
-    (number, place, length as u64)
+    (verdict, length as u64)
 }
 
-fn try_write(kind: u64, today: u64, sheet: &[u8], room: &mut [u8]) -> Result<usize, Refusal> {
-    let kind = admit(kind, today).map_err(|number| (number, 0))?;
-    let spans = sections(kind.rows.len(), sheet).ok_or((number::SHEET, 0))?;
-
-    let mut content = 0;
-    let mut at = 0;
-    for (i, row) in kind.rows.iter().enumerate() {
-        let place = at as u64;
-        at += 2;
-        let value = match spans.value(i, sheet) {
-            Some(value) => value,
-            None if row.optional => continue,
-            None => return Err((number::MISSING, place)),
-        };
-        if !row.permits(value.len()) {
-            return Err((number::ELEMENT_LENGTH, place));
-        }
-        let verdict = row.judge(value, today);
-        if verdict != number::DONE {
-            return Err((verdict, place));
-        }
-        at += value.len();
-        content += tag_bytes(row.tag) + length_bytes(value.len()) + value.len();
-    }
+fn try_write(kind: u64, today: u64, sheet: &[u8], room: &mut [u8]) -> Result<usize, Verdict> {
+    let kind = admit(kind, today).map_err(without_place)?;
+    let spans = sections(kind.rows.len(), sheet).ok_or(without_place(number::SHEET))?;
+    let content = content_of(kind, today, sheet, &spans)?;
     let total = 1 + length_bytes(content) + content;
     if total > CONTAINER_MAX {
-        return Err((number::TOO_LONG, 0));
+        return Err(without_place(number::TOO_LONG));
     }
     if room.len() < total {
-        return Err((number::ROOM, 0));
+        return Err(without_place(number::ROOM));
     }
 
     room[0] = kind.outer;
@@ -395,6 +400,31 @@ fn try_write(kind: u64, today: u64, sheet: &[u8], room: &mut [u8]) -> Result<usi
         }
     }
     Ok(at)
+}
+
+/// How many bytes the elements of a sheet have together, if its rows keep the rules.
+#[inline]
+fn content_of(kind: &Kind, today: u64, sheet: &[u8], spans: &Spans) -> Result<usize, Verdict> {
+    let mut content = 0;
+    let mut at = 0;
+    for (i, row) in kind.rows.iter().enumerate() {
+        let place = at as u64;
+        // a sheet has a section for every row, so that a missing one has its place too
+        let broken = |number| (number, place, Some(row.tag));
+        at += 2;
+        let value = match spans.value(i, sheet) {
+            Some(value) => value,
+            None if row.optional => continue,
+            None => return Err(broken(number::MISSING)),
+        };
+        let number = row.judge(value, today);
+        if number != number::DONE {
+            return Err(broken(number));
+        }
+        at += value.len();
+        content += tag_bytes(row.tag) + length_bytes(value.len()) + value.len();
+    }
+    Ok(content)
 }
 
 /// Where the sections of a sheet of so many rows lie, if the sheet is neither short nor long.
@@ -454,23 +484,23 @@ fn put_element(tag: u16, value: &[u8], out: &mut [u8]) -> usize {
     at + value.len()
 }
 
-/// The value of the element with this tag, as a part of the container: number, place, part.
-pub fn view(kind: u64, today: u64, container: &[u8], tag: u64) -> (u64, u64, &[u8]) {
+/// The value of the element with this tag, as a part of the container: the verdict, and the part.
+pub fn view(kind: u64, today: u64, container: &[u8], element: u64) -> (Verdict, &[u8]) {
     let mut found = None;
-    let verdict = match kind_of(kind) {
+    let outcome = match kind_of(kind) {
         Some(table) => {
-            let wanted = table.rows.iter().position(|row| u64::from(row.tag) == tag);
+            let wanted = table.rows.iter().position(|row| u64::from(row.tag) == element);
             checked(kind, today, container, |row, start, end| {
                 if Some(row) == wanted {
                     found = Some((start, end));
                 }
             })
         }
-        None => Err((number::KIND, 0)),
+        None => Err(without_place(number::KIND)),
     };
-    match (verdict, found) {
-        (Err((number, place)), _) => (number, place, &container[..0]),
-        (Ok(_), None) => (number::NO_ELEMENT, 0, &container[..0]),
-        (Ok(_), Some((start, end))) => (number::DONE, 0, &container[start..end]),
+    match (outcome, found) {
+        (Err(broken), _) => (broken, &container[..0]),
+        (Ok(_), None) => (without_place(number::NO_ELEMENT), &container[..0]),
+        (Ok(_), Some((start, end))) => (CONFORMS, &container[start..end]),
     }
 }

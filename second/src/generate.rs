@@ -2,9 +2,8 @@
 
 use crate::batch::{Call, Record, BYTES_MAX, ROOM_MAX};
 use crate::card::{self, all_kinds, Rule, LAST_KIND};
-use crate::trees;
 use crate::values::{self, fascn_encode, fascn_pack, fascn_values, is_date};
-use crate::{CONTAINER_MAX, REPORT_MAX, SHEET_ROOM};
+use crate::{faults, trees, CONTAINER_MAX, NO_TAG, REPORT_MAX, SHEET_ROOM};
 
 /// splitmix64.
 pub struct Rng(u64);
@@ -1324,7 +1323,7 @@ fn view_tag(rng: &mut Rng, kind: u64) -> u64 {
     match rng.below(20) {
         0..=12 if !rows.is_empty() => u64::from(rng.pick(rows).tag),
         13 | 14 => u64::from(rng.pick(&TAGS)),
-        15 => rng.pick(&[0x5F, 0x2F, 0x5F2F, 0x2F5F, 0xFE, 0, u64::MAX, 0x0100, 0xFEFE]),
+        15 => rng.pick(&[0x5F, 0x2F, 0x5F2F, 0x2F5F, 0xFE, 0, u64::MAX, 0x0100, 0xFEFE, NO_TAG]),
         16 if !rows.is_empty() => {
             let tag = u64::from(rng.pick(rows).tag);
             rng.pick(&[
@@ -1435,7 +1434,7 @@ fn any_container(rng: &mut Rng, kind: u64) -> (Card, Vec<u8>) {
 fn container_record(rng: &mut Rng) -> Record {
     let kind = any_kind(rng);
     let (card, bytes) = any_container(rng, kind);
-    let mut record = Record { call: Call::Check, kind, today: card.today, tag: 0, room: 0, fill: 0, bytes };
+    let mut record = Record { call: Call::Check, kind, today: card.today, element: 0, room: 0, fill: 0, bytes };
     aim(rng, &mut record, &card);
     record
 }
@@ -1450,7 +1449,7 @@ fn aim(rng: &mut Rng, record: &mut Record, card: &Card) {
         }
         11..=13 => {
             record.call = Call::View;
-            record.tag = view_tag(rng, record.kind);
+            record.element = view_tag(rng, record.kind);
         }
         _ => {
             record.call = Call::Report;
@@ -1475,7 +1474,7 @@ fn write_record(rng: &mut Rng) -> Record {
         damage_sheet(rng, &mut sheet, &card);
     }
     let room = any_room(rng, card.container().len());
-    Record { call: Call::Write, kind, today: card.today, tag: 0, room, fill: any_fill(rng), bytes: sheet }
+    Record { call: Call::Write, kind, today: card.today, element: 0, room, fill: any_fill(rng), bytes: sheet }
 }
 
 /// A container or a sheet near the limit of 32,768 bytes.
@@ -1501,7 +1500,7 @@ fn big_record(rng: &mut Rng) -> Record {
             _ => bytes.push(0),
         }
     }
-    let mut record = Record { call: Call::Check, kind, today: card.today, tag: 0, room: 0, fill: 0, bytes };
+    let mut record = Record { call: Call::Check, kind, today: card.today, element: 0, room: 0, fill: 0, bytes };
     aim(rng, &mut record, &card);
     record
 }
@@ -1523,7 +1522,7 @@ fn big_write_record(rng: &mut Rng, mut card: Card, total: usize) -> Record {
         damage_front(rng, &mut bytes);
     }
     bytes.truncate(BYTES_MAX);
-    Record { call: Call::Write, kind: card.kind, today: card.today, tag: 0, room, fill: any_fill(rng), bytes }
+    Record { call: Call::Write, kind: card.kind, today: card.today, element: 0, room, fill: any_fill(rng), bytes }
 }
 
 /// Changes a bit of the first 201 bytes.
@@ -1543,7 +1542,7 @@ fn fascn_decode_record(rng: &mut Rng) -> Record {
         }
         _ => bytes = rng.bytes(25),
     }
-    Record { call: Call::FascnDecode, kind: 0, today: 0, tag: 0, room: 0, fill: 0, bytes }
+    Record { call: Call::FascnDecode, kind: 0, today: 0, element: 0, room: 0, fill: 0, bytes }
 }
 
 fn fascn_encode_record(rng: &mut Rng) -> Record {
@@ -1566,7 +1565,7 @@ fn fascn_encode_record(rng: &mut Rng) -> Record {
 
 fn encode_record(numbers: &[u64; 9], room: usize, fill: u8) -> Record {
     let bytes = numbers.iter().flat_map(|number| number.to_be_bytes()).collect();
-    Record { call: Call::FascnEncode, kind: 0, today: 0, tag: 0, room, fill, bytes }
+    Record { call: Call::FascnEncode, kind: 0, today: 0, element: 0, room, fill, bytes }
 }
 
 // ---------------------------------------------------------------------------------------------
@@ -1644,8 +1643,9 @@ fn certificate_card(kind: u64, certificate: Vec<u8>, extra: Option<usize>) -> Ca
     Card { kind, today: EXAMPLE_DAY, rows }
 }
 
-fn plain(call: Call, kind: u64, bytes: Vec<u8>) -> Record {
-    Record { call, kind, today: EXAMPLE_DAY, tag: 0, room: 0, fill: 0, bytes }
+/// A call on the example's day, without a room.
+pub fn plain(call: Call, kind: u64, bytes: Vec<u8>) -> Record {
+    Record { call, kind, today: EXAMPLE_DAY, element: 0, room: 0, fill: 0, bytes }
 }
 
 /// Certificates at their edges, each kind in turn: of 70 itself, of the length of 72, and of the whole container.
@@ -1733,10 +1733,10 @@ fn fixed_records() -> Vec<Record> {
             out.push(Record { room, fill: 0xA5, ..plain(Call::Report, kind, vec![0x53, 0x00]) });
         }
         for row in card::kind_of(kind).map_or(&[][..], |kind| kind.rows) {
-            out.push(Record { tag: u64::from(row.tag), ..plain(Call::View, kind, container.clone()) });
+            out.push(Record { element: u64::from(row.tag), ..plain(Call::View, kind, container.clone()) });
         }
-        for tag in [0x5F, 0x2F, 0x5F2F, 0xFE, 0, u64::MAX] {
-            out.push(Record { tag, ..plain(Call::View, kind, container.clone()) });
+        for element in [0x5F, 0x2F, 0x5F2F, 0xFE, 0, NO_TAG, u64::MAX] {
+            out.push(Record { element, ..plain(Call::View, kind, container.clone()) });
         }
         if matches!(kind, 6 | 7) {
             for quality in [0xFD, 0xFE, 0xFF, 0x00, 0x64, 0x65, 0x7F, 0x80] {
@@ -1762,6 +1762,7 @@ fn fixed_records() -> Vec<Record> {
         out.push(Record { today, room: 512, fill: 0xA5, ..plain(Call::Report, 3, EXAMPLE_DISCOVERY.to_vec()) });
     }
     out.extend(fixed_certificates());
+    out.extend(faults::records());
     out
 }
 

@@ -6,6 +6,7 @@
 pub mod batch;
 pub mod card;
 pub mod der;
+pub mod faults;
 pub mod generate;
 pub mod named;
 pub mod report;
@@ -13,7 +14,7 @@ pub mod samples;
 pub mod trees;
 pub mod values;
 
-pub use card::{check, view, write, Checked};
+pub use card::{check, view, write, Checked, Verdict};
 pub use report::{desk, report};
 pub use values::{fascn_decode, fascn_encode};
 
@@ -56,3 +57,12 @@ pub const CONTAINER_MAX: usize = 32_768;
 pub const SHEET_ROOM: usize = CONTAINER_MAX + 6;
 /// A report has at most this many bytes, and asks for a room of at least as many.
 pub const REPORT_MAX: usize = 512;
+
+/// What no tag is as a number, where callers of other languages get the tag of a verdict as one. A tag has one byte or two, and
+/// is never that large; 00 is a tag.
+pub const NO_TAG: u64 = 65_536;
+
+/// A verdict's tag as such a number.
+pub fn tag_number(tag: Option<u16>) -> u64 {
+    tag.map_or(NO_TAG, u64::from)
+}

@@ -2,11 +2,13 @@
 //! and rooms at their edges. The tests of this program run them, and the comparison runs them through both programs.
 
 use crate::batch::{Answer, Call, Record};
-use crate::card::Refusal;
+use crate::card::{Verdict, CONFORMS};
 use crate::generate::{Card, EXAMPLE_DAY, EXAMPLE_DISCOVERY, EXAMPLE_FASCN};
 use crate::samples::{card, ccc, certificate, chuid, discovery, face, fingers, printed, security, wrong_fascn};
 use crate::samples::{COMPRESSED, P256, RSA, UUID};
 use crate::{CONTAINER_MAX, SHEET_ROOM};
+
+mod tags;
 
 /// A call and its answer.
 pub type Case = (Record, Answer);
@@ -25,6 +27,7 @@ pub fn all() -> Vec<Group> {
         there_and_back(),
         rooms(),
         refused_sheets(),
+        tags::all(),
         views(),
         reports(),
     ]
@@ -35,38 +38,43 @@ pub fn all() -> Vec<Group> {
 // The calls
 
 fn given(call: Call, kind: u64, bytes: &[u8]) -> Record {
-    Record { call, kind, today: EXAMPLE_DAY, tag: 0, room: 0, fill: 0, bytes: bytes.to_vec() }
+    Record { call, kind, today: EXAMPLE_DAY, element: 0, room: 0, fill: 0, bytes: bytes.to_vec() }
 }
 
 fn on(today: u64, (record, answer): Case) -> Case {
     (Record { today, ..record }, answer)
 }
 
-fn refused((number, place): Refusal) -> Answer {
-    Answer { number, place, ..Answer::default() }
+fn told((number, place, tag): Verdict) -> Answer {
+    Answer { number, place, tag, ..Answer::default() }
+}
+
+/// A number that carries no place, and so no tag.
+fn alone(number: u64) -> Verdict {
+    (number, 0, None)
 }
 
 /// What a call leaves in a room that held FF: its output and zeros behind it, or zeros after a refusal.
-fn into_room(record: Record, room: usize, outcome: Result<&[u8], Refusal>) -> Case {
+fn into_room(record: Record, room: usize, outcome: Result<&[u8], Verdict>) -> Case {
     let (verdict, output) = match outcome {
-        Ok(output) => ((0, 0), output),
+        Ok(output) => (CONFORMS, output),
         Err(refusal) => (refusal, &[][..]),
     };
     let mut left = output.to_vec();
     left.resize(room, 0);
-    (Record { room, fill: 0xFF, ..record }, Answer { length: output.len() as u64, room: left, ..refused(verdict) })
+    (Record { room, fill: 0xFF, ..record }, Answer { length: output.len() as u64, room: left, ..told(verdict) })
 }
 
 /// A check with an empty room, for the verdict alone. Beside a 0 there is the 3.
-fn check(kind: u64, container: &[u8], verdict: Refusal) -> Case {
+fn check(kind: u64, container: &[u8], verdict: Verdict) -> Case {
     match verdict {
-        (0, 0) => check_short(kind, container, 0),
+        CONFORMS => check_short(kind, container, 0),
         broken => check_into(kind, container, 0, Err(broken)),
     }
 }
 
 /// A check with a room: the sheet that is written there, or the first broken rule.
-fn check_into(kind: u64, container: &[u8], room: usize, outcome: Result<&[u8], Refusal>) -> Case {
+fn check_into(kind: u64, container: &[u8], room: usize, outcome: Result<&[u8], Verdict>) -> Case {
     into_room(given(Call::Check, kind, container), room, outcome)
 }
 
@@ -76,31 +84,31 @@ fn check_short(kind: u64, container: &[u8], room: usize) -> Case {
     (record, Answer { short: 3, ..answer })
 }
 
-fn write(kind: u64, sheet: &[u8], room: usize, outcome: Result<&[u8], Refusal>) -> Case {
+fn write(kind: u64, sheet: &[u8], room: usize, outcome: Result<&[u8], Verdict>) -> Case {
     into_room(given(Call::Write, kind, sheet), room, outcome)
 }
 
 /// A view is told by the offset and the length of its part.
-fn view(kind: u64, container: &[u8], tag: u64, outcome: Result<(usize, usize), Refusal>) -> Case {
-    let record = Record { tag, ..given(Call::View, kind, container) };
+fn view(kind: u64, container: &[u8], element: u64, outcome: Result<(usize, usize), Verdict>) -> Case {
+    let record = Record { element, ..given(Call::View, kind, container) };
     let answer = match outcome {
         Ok((offset, length)) => {
             let part = container[offset..offset + length].to_vec();
             Answer { offset: offset as u64, length: length as u64, part, ..Answer::default() }
         }
-        Err(refusal) => refused(refusal),
+        Err(refusal) => told(refusal),
     };
     (record, answer)
 }
 
 fn report(kind: u64, container: &[u8], room: usize, outcome: Result<&str, u64>) -> Case {
-    into_room(given(Call::Report, kind, container), room, outcome.map(str::as_bytes).map_err(|number| (number, 0)))
+    into_room(given(Call::Report, kind, container), room, outcome.map(str::as_bytes).map_err(alone))
 }
 
 fn decode(bytes: &[u8], outcome: Result<[u64; 9], u64>) -> Case {
     let answer = match outcome {
         Ok(numbers) => Answer { numbers, ..Answer::default() },
-        Err(number) => refused((number, 0)),
+        Err(number) => told(alone(number)),
     };
     (Record { today: 0, ..given(Call::FascnDecode, 0, bytes) }, answer)
 }
@@ -108,7 +116,7 @@ fn decode(bytes: &[u8], outcome: Result<[u64; 9], u64>) -> Case {
 fn encode(numbers: &[u64; 9], room: usize, outcome: Result<&[u8], u64>) -> Case {
     let bytes: Vec<u8> = numbers.iter().flat_map(|number| number.to_be_bytes()).collect();
     let record = Record { today: 0, ..given(Call::FascnEncode, 0, &bytes) };
-    let (record, answer) = into_room(record, room, outcome.map_err(|number| (number, 0)));
+    let (record, answer) = into_room(record, room, outcome.map_err(alone));
     // an encoding tells no length
     (record, Answer { length: 0, ..answer })
 }
@@ -189,38 +197,28 @@ fn fascns() -> Vec<Group> {
 // Biometric records
 
 fn biometrics() -> Vec<Group> {
-    let fingers_of = |quality, verdict| check(6, &fingers(quality, b'0', [0, 0]).container(), verdict);
-    let face_of = |quality, verdict| check(7, &face(quality, 1, 1).container(), verdict);
-    let views = |counts| check(6, &fingers(100, b'0', counts).container(), (0, 0));
+    let at_bc = |number, place| if number == 0 { CONFORMS } else { (number, place, Some(0xBC)) };
+    let fingers_of = |quality, number| check(6, &fingers(quality, b'0', [0, 0]).container(), at_bc(number, 3));
+    let face_of = |quality, number| check(7, &face(quality, 1, 1).container(), at_bc(number, 2));
+    let views = |counts| check(6, &fingers(100, b'0', counts).container(), CONFORMS);
     let value = face(100, 1, 1).rows[0].clone().unwrap_or_default();
-    let bc_of = |length: usize, verdict| check(7, &card(7, &[Some(&value[..length]), Some(&[])]).container(), verdict);
+    let bc_of =
+        |length: usize, number| check(7, &card(7, &[Some(&value[..length]), Some(&[])]).container(), at_bc(number, 2));
     vec![
         (
             "quality FD, FE, FF, 64, 65 in FINGERS",
-            vec![
-                fingers_of(0xFD, (21, 3)),
-                fingers_of(0xFE, (0, 0)),
-                fingers_of(0xFF, (0, 0)),
-                fingers_of(0x64, (0, 0)),
-                fingers_of(0x65, (21, 3)),
-            ],
+            [(0xFD, 21), (0xFE, 0), (0xFF, 0), (0x64, 0), (0x65, 21)].map(|(q, number)| fingers_of(q, number)).to_vec(),
         ),
         (
             "quality FD, FE, FF, 64, 65 in FACE",
-            vec![
-                face_of(0xFD, (21, 2)),
-                face_of(0xFE, (0, 0)),
-                face_of(0xFF, (21, 2)),
-                face_of(0x64, (0, 0)),
-                face_of(0x65, (21, 2)),
-            ],
+            [(0xFD, 21), (0xFE, 0), (0xFF, 21), (0x64, 0), (0x65, 21)].map(|(q, number)| face_of(q, number)).to_vec(),
         ),
         ("FINGERS with 0 and with 128 minutiae in a view", vec![views([0, 0]), views([128, 128]), views([0, 128])]),
-        ("the old version number in the minutiae", vec![check(6, &fingers(100, 0, [0, 0]).container(), (22, 3))]),
         (
-            "BC of 87, 88, 89 and 90 bytes, FACE",
-            vec![bc_of(87, (16, 2)), bc_of(88, (21, 2)), bc_of(89, (21, 2)), bc_of(90, (0, 0))],
+            "the old version number in the minutiae",
+            vec![check(6, &fingers(100, 0, [0, 0]).container(), (22, 3, Some(0xBC)))],
         ),
+        ("BC of 87, 88, 89 and 90 bytes, FACE", vec![bc_of(87, 16), bc_of(88, 21), bc_of(89, 21), bc_of(90, 0)]),
     ]
 }
 
@@ -268,16 +266,15 @@ fn with_part(part: &[u8]) -> Vec<u8> {
 fn check_70(value: &[u8], number: u64) -> Case {
     let container = certificate(8, value, 0, None).container();
     let place = match container[1] {
-        _ if number == 0 => 0,
         0x81 => 3,
         0x82 => 4,
         _ => 2,
     };
-    check(8, &container, (number, place))
+    check(8, &container, if number == 0 { CONFORMS } else { (number, place, Some(0x70)) })
 }
 
 fn certificates() -> Vec<Group> {
-    let least = |kind| check(kind, &certificate(kind, &LEAST, 0, None).container(), (0, 0));
+    let least = |kind| check(kind, &certificate(kind, &LEAST, 0, None).container(), CONFORMS);
     vec![
         ("the least certificate as PIVAUTH, DIGSIG, KEYMGMT, CARDAUTH", vec![least(8), least(9), least(10), least(11)]),
         certificate_levels(),
@@ -294,8 +291,8 @@ fn certificates() -> Vec<Group> {
         (
             "certificates of two-byte items in containers of exactly 32,768 bytes and of 32,769",
             vec![
-                check(9, &certificate(9, &of_pairs(32_755), 0, None).container(), (0, 0)),
-                check(9, &certificate(9, &of_pairs(32_756), 0, None).container(), (4, 0)),
+                check(9, &certificate(9, &of_pairs(32_755), 0, None).container(), CONFORMS),
+                check(9, &certificate(9, &of_pairs(32_756), 0, None).container(), alone(4)),
             ],
         ),
     ]
@@ -421,7 +418,7 @@ fn first_fault() -> Group {
 }
 
 /// A check of CARDAUTH with these elements.
-fn check_elements(elements: &[&[u8]], verdict: Refusal) -> Case {
+fn check_elements(elements: &[&[u8]], verdict: Verdict) -> Case {
     let content = elements.concat();
     check(11, &[&[0x53, content.len() as u8], &content[..]].concat(), verdict)
 }
@@ -435,10 +432,10 @@ fn certificate_information() -> Group {
     (
         "71 of 01; of 01 with a certificate that is compressed; of no bytes and of two",
         vec![
-            check(10, &certificate(10, &LEAST, 1, None).container(), (20, 12)),
-            check(10, &certificate(10, COMPRESSED, 1, None).container(), (24, 4)),
-            check_elements(&[&ELEMENT_70, &[0x71, 0], &ELEMENT_FE], (16, 12)),
-            check_elements(&[&ELEMENT_70, &[0x71, 2, 0, 0], &ELEMENT_FE], (16, 12)),
+            check(10, &certificate(10, &LEAST, 1, None).container(), (20, 12, Some(0x71))),
+            check(10, &certificate(10, COMPRESSED, 1, None).container(), (24, 4, Some(0x70))),
+            check_elements(&[&ELEMENT_70, &[0x71, 0], &ELEMENT_FE], (16, 12, Some(0x71))),
+            check_elements(&[&ELEMENT_70, &[0x71, 2, 0, 0], &ELEMENT_FE], (16, 12, Some(0x71))),
         ],
     )
 }
@@ -446,7 +443,7 @@ fn certificate_information() -> Group {
 fn certificate_extras() -> Group {
     let of =
         |length: usize, verdict| check(10, &certificate(10, &LEAST, 0, Some(&vec![0x41; length])).container(), verdict);
-    ("72 of 0, 38 and 39 bytes", vec![of(0, (0, 0)), of(38, (0, 0)), of(39, (16, 15))])
+    ("72 of 0, 38 and 39 bytes", vec![of(0, CONFORMS), of(38, CONFORMS), of(39, (16, 15, Some(0x72)))])
 }
 
 fn certificate_rows() -> Group {
@@ -454,12 +451,12 @@ fn certificate_rows() -> Group {
     (
         "70 missing, 71 missing, 72 before 71, 71 twice, FE missing, a tag that is none",
         vec![
-            check_elements(&[&ELEMENT_71, &ELEMENT_FE], (15, 2)),
-            check_elements(&[&ELEMENT_70, &ELEMENT_FE], (15, 12)),
-            check_elements(&[&ELEMENT_70, &extra, &ELEMENT_71, &ELEMENT_FE], (15, 12)),
-            check_elements(&[&ELEMENT_70, &ELEMENT_71, &ELEMENT_71, &ELEMENT_FE], (14, 15)),
-            check_elements(&[&ELEMENT_70, &ELEMENT_71, &extra], (15, 17)),
-            check_elements(&[&ELEMENT_70, &ELEMENT_71, &[0x73, 0], &ELEMENT_FE], (13, 15)),
+            check_elements(&[&ELEMENT_71, &ELEMENT_FE], (15, 2, Some(0x71))),
+            check_elements(&[&ELEMENT_70, &ELEMENT_FE], (15, 12, Some(0xFE))),
+            check_elements(&[&ELEMENT_70, &extra, &ELEMENT_71, &ELEMENT_FE], (15, 12, Some(0x72))),
+            check_elements(&[&ELEMENT_70, &ELEMENT_71, &ELEMENT_71, &ELEMENT_FE], (14, 15, Some(0x71))),
+            check_elements(&[&ELEMENT_70, &ELEMENT_71, &extra], (15, 17, None)),
+            check_elements(&[&ELEMENT_70, &ELEMENT_71, &[0x73, 0], &ELEMENT_FE], (13, 15, Some(0x73))),
         ],
     )
 }
@@ -468,19 +465,22 @@ fn certificate_rows() -> Group {
 // Limits, kinds and broken containers
 
 fn limits() -> Vec<Group> {
-    let day = |today, number| on(today, check(5, &SMALL, (number, 0)));
+    let day = |today, number| on(today, check(5, &SMALL, alone(number)));
     vec![
-        ("an empty container, and one without elements", vec![check(2, &[], (10, 0)), check(2, &[0x53, 0], (15, 2))]),
+        (
+            "an empty container, and one without elements",
+            vec![check(2, &[], alone(10)), check(2, &[0x53, 0], (15, 2, None))],
+        ),
         (
             "conforming containers of exactly 32,768 bytes and of 32,769",
             vec![
-                check(2, &large_chuid(CONTAINER_MAX).container(), (0, 0)),
-                check(2, &large_chuid(CONTAINER_MAX + 1).container(), (4, 0)),
+                check(2, &large_chuid(CONTAINER_MAX).container(), CONFORMS),
+                check(2, &large_chuid(CONTAINER_MAX + 1).container(), alone(4)),
             ],
         ),
         (
             "kind 0, 12 and the largest number",
-            vec![check(0, &SMALL, (1, 0)), check(12, &SMALL, (1, 0)), check(u64::MAX, &SMALL, (1, 0))],
+            vec![check(0, &SMALL, alone(1)), check(12, &SMALL, alone(1)), check(u64::MAX, &SMALL, alone(1))],
         ),
         (
             "today 0, 20230229, 10101, 99991231, 99999999 and the largest number, SECURITY",
@@ -493,7 +493,7 @@ fn limits() -> Vec<Group> {
 fn conforms(card: Card) -> [Case; 2] {
     let container = card.container();
     let sheet = card.sheet();
-    [check(card.kind, &container, (0, 0)), check_into(card.kind, &container, sheet.len(), Ok(&sheet))]
+    [check(card.kind, &container, CONFORMS), check_into(card.kind, &container, sheet.len(), Ok(&sheet))]
 }
 
 fn conforming() -> Vec<Group> {
@@ -525,39 +525,39 @@ fn conforming() -> Vec<Group> {
 }
 
 fn broken() -> Vec<Group> {
-    let breaks = |card: Card, number, place| check(card.kind, &card.container(), (number, place));
-    let security_of = |elements: &[u8], number, place| {
+    let breaks = |card: Card, verdict| check(card.kind, &card.container(), verdict);
+    let security_of = |elements: &[u8], verdict| {
         let container = [&[0x53, elements.len() as u8], elements].concat();
-        check(5, &container, (number, place))
+        check(5, &container, verdict)
     };
     let with_length = |length: &[u8], bytes: usize| {
         let elements = [&[0xBA, 0, 0xBB], length, &vec![1; bytes], &[0xFE, 0]].concat();
-        check(5, &[&[0x53, 0x81, elements.len() as u8], &elements[..]].concat(), (11, 5))
+        check(5, &[&[0x53, 0x81, elements.len() as u8], &elements[..]].concat(), (11, 5, Some(0xBB)))
     };
     vec![
         (
             "a CHUID with a bad FASC-N, with an expiry before and after its window",
             vec![
-                breaks(chuid(&wrong_fascn(), EXPIRES, &[]), 17, 2),
-                breaks(chuid(&EXAMPLE_FASCN, b"20260228", &[]), 19, 47),
-                breaks(chuid(&EXAMPLE_FASCN, b"20320302", &[]), 19, 47),
+                breaks(chuid(&wrong_fascn(), EXPIRES, &[]), (17, 2, Some(0x30))),
+                breaks(chuid(&EXAMPLE_FASCN, b"20260228", &[]), (19, 47, Some(0x35))),
+                breaks(chuid(&EXAMPLE_FASCN, b"20320302", &[]), (19, 47, Some(0x35))),
             ],
         ),
         (
             "P14; a 5F without 2F; bytes after the outer end",
             vec![
-                breaks(discovery([0x60, 0]), 20, 15),
-                check(3, &[0x7E, 2, 0x5F, 0], (13, 2)),
-                check(5, &[&SMALL[..], &[0]].concat(), (12, 0)),
+                breaks(discovery([0x60, 0]), (20, 15, Some(0x5F2F))),
+                check(3, &[0x7E, 2, 0x5F, 0], (13, 2, Some(0x5F))),
+                check(5, &[&SMALL[..], &[0]].concat(), alone(12)),
             ],
         ),
         (
             "tags swapped, doubled, unknown, missing at the end",
             vec![
-                security_of(&[0xBB, 0, 0xBA, 0, 0xFE, 0], 15, 2),
-                security_of(&[0xBA, 0, 0xBA, 0, 0xFE, 0], 14, 4),
-                security_of(&[0xBA, 0, 0x99, 0, 0xFE, 0], 13, 4),
-                security_of(&[0xBA, 0, 0xBB, 0], 15, 6),
+                security_of(&[0xBB, 0, 0xBA, 0, 0xFE, 0], (15, 2, Some(0xBB))),
+                security_of(&[0xBA, 0, 0xBA, 0, 0xFE, 0], (14, 4, Some(0xBA))),
+                security_of(&[0xBA, 0, 0x99, 0, 0xFE, 0], (13, 4, Some(0x99))),
+                security_of(&[0xBA, 0, 0xBB, 0], (15, 6, None)),
             ],
         ),
         (
@@ -571,7 +571,10 @@ fn broken() -> Vec<Group> {
         ),
         (
             "PRINTED with a byte 7F in 02, with the date 21000229",
-            vec![breaks(printed(b"AGEN\x7F", EXPIRES), 23, 13), breaks(printed(b"AGENT", b"21000229"), 19, 20)],
+            vec![
+                breaks(printed(b"AGEN\x7F", EXPIRES), (23, 13, Some(0x02))),
+                breaks(printed(b"AGENT", b"21000229"), (19, 20, Some(0x04))),
+            ],
         ),
     ]
 }
@@ -593,7 +596,7 @@ fn there_and_back() -> Vec<Group> {
             check(sheet.len() + 5),
             check(container.len() + 6),
             check(SHEET_ROOM),
-            write(container.len() - 1, Err((3, 0))),
+            write(container.len() - 1, Err(alone(3))),
             write(container.len(), Ok(&container)),
             write(container.len() + 5, Ok(&container)),
         ];
@@ -637,7 +640,7 @@ fn worked_cases() -> Group {
         [&[0, 0, 0, 26], &EXAMPLE_FASCN[..], &[0, 0, 0, 0, 0, 17], &GUID, &[0, 9], EXPIRES, &[0, 0, 0, 1, 0, 1]]
             .concat();
     let long_form = [&[0x53, 0x82, 1, 5], &head(&GUID)[..], &[0x3E, 0x82, 0, 200], &[0xAA; 200], &[0xFE, 0]].concat();
-    let told = "CARD 4\nkind CHUID\nbytes 61\ntoday 20260301\nverdict 18 29\nELEMENTS 0\nOPEN 0\n";
+    let told = "CARD 4\nkind CHUID\nbytes 61\ntoday 20260301\nverdict 18 29 34\nELEMENTS 0\nOPEN 0\n";
     (
         "the worked cases of 2026-13",
         vec![
@@ -645,14 +648,14 @@ fn worked_cases() -> Group {
             check_into(2, &good, 70, Ok(&sheet)),
             check_short(2, &good, 66),
             check_short(2, &good, 0),
-            check_into(2, &bad, 0, Err((18, 29))),
-            check_into(2, &bad, 99, Err((18, 29))),
-            check_into(0, &good, 0, Err((1, 0))),
-            on(20260229, check_into(2, &good, 99, Err((2, 0)))),
-            check_into(2, &[0; 32_769], 0, Err((4, 0))),
-            check_into(2, &[], 0, Err((10, 0))),
+            check_into(2, &bad, 0, Err((18, 29, Some(0x34)))),
+            check_into(2, &bad, 99, Err((18, 29, Some(0x34)))),
+            check_into(0, &good, 0, Err(alone(1))),
+            on(20260229, check_into(2, &good, 99, Err(alone(2)))),
+            check_into(2, &[0; 32_769], 0, Err(alone(4))),
+            check_into(2, &[], 0, Err(alone(10))),
             check_into(3, &EXAMPLE_DISCOVERY, 17, Ok(&DISCOVERY_SHEET)),
-            check_into(2, &long_form, 300, Err((11, 59))),
+            check_into(2, &long_form, 300, Err((11, 59, Some(0x3E)))),
             view(2, &good, 0x30, Ok((4, 25))),
             report(2, &bad, 512, Ok(told)),
         ],
@@ -682,24 +685,24 @@ fn largest_into_rooms() -> Group {
 }
 
 fn broken_into_rooms() -> Group {
-    let breaks = |card: Card, number, place| {
+    let breaks = |card: Card, number, place, tag| {
         let container = card.container();
-        [0, 1, SHEET_ROOM].map(|room| check_into(card.kind, &container, room, Err((number, place))))
+        [0, 1, SHEET_ROOM].map(|room| check_into(card.kind, &container, room, Err((number, place, tag))))
     };
     (
         "a broken one of every kind, each with rooms of 0, 1 and 32,774 bytes",
         [
-            breaks(ccc(0x11), 20, 36),
-            breaks(chuid(&wrong_fascn(), EXPIRES, &[]), 17, 2),
-            breaks(discovery([0x60, 0]), 20, 15),
-            breaks(printed(b"AGENT", b"20300230"), 19, 20),
-            breaks(card(5, &[Some(&[]), Some(&[]), None]), 15, 6),
-            breaks(fingers(100, 0, [3, 5]), 22, 3),
-            breaks(face(0xFF, 300, 40), 21, 4),
-            breaks(certificate(8, COMPRESSED, 1, None), 24, 4),
-            breaks(certificate(9, &LEVEL_9, 0, None), 25, 2),
-            breaks(certificate(10, &LEAST, 1, None), 20, 12),
-            breaks(certificate(11, &LEAST, 0, Some(&[0x41; 39])), 16, 15),
+            breaks(ccc(0x11), 20, 36, Some(0xF5)),
+            breaks(chuid(&wrong_fascn(), EXPIRES, &[]), 17, 2, Some(0x30)),
+            breaks(discovery([0x60, 0]), 20, 15, Some(0x5F2F)),
+            breaks(printed(b"AGENT", b"20300230"), 19, 20, Some(0x04)),
+            breaks(card(5, &[Some(&[]), Some(&[]), None]), 15, 6, None),
+            breaks(fingers(100, 0, [3, 5]), 22, 3, Some(0xBC)),
+            breaks(face(0xFF, 300, 40), 21, 4, Some(0xBC)),
+            breaks(certificate(8, COMPRESSED, 1, None), 24, 4, Some(0x70)),
+            breaks(certificate(9, &LEVEL_9, 0, None), 25, 2, Some(0x70)),
+            breaks(certificate(10, &LEAST, 1, None), 20, 12, Some(0x71)),
+            breaks(certificate(11, &LEAST, 0, Some(&[0x41; 39])), 16, 15, Some(0x72)),
         ]
         .concat(),
     )
@@ -708,7 +711,7 @@ fn broken_into_rooms() -> Group {
 fn refused_into_rooms() -> Group {
     let too_large = large_chuid(CONTAINER_MAX + 1).container();
     let refuses = |kind, today, container: &[u8], number| {
-        [0, 1, 60, SHEET_ROOM].map(|room| on(today, check_into(kind, container, room, Err((number, 0)))))
+        [0, 1, 60, SHEET_ROOM].map(|room| on(today, check_into(kind, container, room, Err(alone(number)))))
     };
     (
         "kind 0, no date, 32,769 bytes, each alone and with those that come later; an empty container; bytes after the outer end: \
@@ -730,10 +733,10 @@ fn small_rooms() -> Group {
     (
         "a broken container with a room of 80 bytes; an empty one, kind 0 and no date with one of 4",
         vec![
-            check_into(2, &chuid(&wrong_fascn(), EXPIRES, &[]).container(), 80, Err((17, 2))),
-            check_into(2, &[], 4, Err((10, 0))),
-            check_into(0, &SMALL, 4, Err((1, 0))),
-            on(0, check_into(5, &SMALL, 4, Err((2, 0)))),
+            check_into(2, &chuid(&wrong_fascn(), EXPIRES, &[]).container(), 80, Err((17, 2, Some(0x30)))),
+            check_into(2, &[], 4, Err(alone(10))),
+            check_into(0, &SMALL, 4, Err(alone(1))),
+            on(0, check_into(5, &SMALL, 4, Err(alone(2)))),
         ],
     )
 }
@@ -741,13 +744,13 @@ fn small_rooms() -> Group {
 // ---------------------------------------------------------------------------------------------
 // Sheets that are refused
 
-fn refuses_certificate(value: &[u8], information: u8, extra: Option<&[u8]>, refusal: Refusal) -> Case {
+fn refuses_certificate(value: &[u8], information: u8, extra: Option<&[u8]>, refusal: Verdict) -> Case {
     write(8, &certificate(8, value, information, extra).sheet(), 70, Err(refusal))
 }
 
 fn refused_sheets() -> Vec<Group> {
     let sheet = case_r().sheet();
-    let refuses = |sheet: &[u8], number, place| write(2, sheet, 70, Err((number, place)));
+    let refuses = |sheet: &[u8], refusal| write(2, sheet, 70, Err(refusal));
     let mut past_the_end = sheet.clone();
     past_the_end[2..4].fill(0xFF);
     let mut no_end = sheet.clone();
@@ -760,39 +763,39 @@ fn refused_sheets() -> Vec<Group> {
         (
             "CHUID sheets: a byte left over, cut short, a count that runs past the end, empty",
             vec![
-                refuses(&[&sheet[..], &[0]].concat(), 5, 0),
-                refuses(&sheet[..sheet.len() - 1], 5, 0),
-                refuses(&past_the_end, 5, 0),
-                refuses(&[], 5, 0),
+                refuses(&[&sheet[..], &[0]].concat(), alone(5)),
+                refuses(&sheet[..sheet.len() - 1], alone(5)),
+                refuses(&past_the_end, alone(5)),
+                refuses(&[], alone(5)),
             ],
         ),
         (
             "a mandatory row absent, a length that is not permitted, an expiry outside the window, a bad FASC-N, no FE",
             vec![
-                refuses(&with_uuid(None), 15, 33),
-                refuses(&with_uuid(Some(&[1; 15])), 16, 33),
-                refuses(&chuid(&EXAMPLE_FASCN, b"20330101", &[]).sheet(), 19, 51),
-                refuses(&chuid(&wrong_fascn(), EXPIRES, &[]).sheet(), 17, 2),
-                refuses(&no_end, 15, 65),
+                refuses(&with_uuid(None), (15, 33, Some(0x34))),
+                refuses(&with_uuid(Some(&[1; 15])), (16, 33, Some(0x34))),
+                refuses(&chuid(&EXAMPLE_FASCN, b"20330101", &[]).sheet(), (19, 51, Some(0x35))),
+                refuses(&chuid(&wrong_fascn(), EXPIRES, &[]).sheet(), (17, 2, Some(0x30))),
+                refuses(&no_end, (15, 65, Some(0xFE))),
             ],
         ),
         (
             "a container over 32,768 bytes to be written (4 before 3), kind 12, no date",
             vec![
-                write(2, &chuid(&EXAMPLE_FASCN, EXPIRES, &[7; 33_000]).sheet(), 10, Err((4, 0))),
-                write(12, &sheet, 10, Err((1, 0))),
-                on(20260230, write(2, &sheet, 10, Err((2, 0)))),
+                write(2, &chuid(&EXAMPLE_FASCN, EXPIRES, &[7; 33_000]).sheet(), 10, Err(alone(4))),
+                write(12, &sheet, 10, Err(alone(1))),
+                on(20260230, write(2, &sheet, 10, Err(alone(2)))),
             ],
         ),
         (
             "PIVAUTH sheets: two parts, level 9, 71 of 01, 72 of 39 bytes, no 71, and 70 too large for a container",
             vec![
-                refuses_certificate(&[0x30, 4, 5, 0, 5, 0], 0, None, (24, 0)),
-                refuses_certificate(&LEVEL_9, 0, None, (25, 0)),
-                refuses_certificate(&LEAST, 1, None, (20, 10)),
-                refuses_certificate(&LEAST, 0, Some(&[0x41; 39]), (16, 13)),
-                write(8, &card(8, &[Some(&LEAST), None, None, Some(&[])]).sheet(), 70, Err((15, 10))),
-                refuses_certificate(&of_pairs(32_756), 0, None, (4, 0)),
+                refuses_certificate(&[0x30, 4, 5, 0, 5, 0], 0, None, (24, 0, Some(0x70))),
+                refuses_certificate(&LEVEL_9, 0, None, (25, 0, Some(0x70))),
+                refuses_certificate(&LEAST, 1, None, (20, 10, Some(0x71))),
+                refuses_certificate(&LEAST, 0, Some(&[0x41; 39]), (16, 13, Some(0x72))),
+                write(8, &card(8, &[Some(&LEAST), None, None, Some(&[])]).sheet(), 70, Err((15, 10, Some(0x71)))),
+                refuses_certificate(&of_pairs(32_756), 0, None, alone(4)),
             ],
         ),
     ]
@@ -811,11 +814,11 @@ fn views() -> Vec<Group> {
             "views of a CHUID: 30, 36 absent, FE (empty), BA of another kind, 5F2F; of a broken CHUID",
             vec![
                 chuid_view(0x30, Ok((4, 25))),
-                chuid_view(0x36, Err((6, 0))),
+                chuid_view(0x36, Err(alone(6))),
                 chuid_view(0xFE, Ok((61, 0))),
-                chuid_view(0xBA, Err((6, 0))),
-                chuid_view(0x5F2F, Err((6, 0))),
-                view(2, &chuid(&wrong_fascn(), EXPIRES, &[]).container(), 0x30, Err((17, 2))),
+                chuid_view(0xBA, Err(alone(6))),
+                chuid_view(0x5F2F, Err(alone(6))),
+                view(2, &chuid(&wrong_fascn(), EXPIRES, &[]).container(), 0x30, Err((17, 2, Some(0x30)))),
             ],
         ),
         (
@@ -830,9 +833,9 @@ fn views() -> Vec<Group> {
             vec![
                 discovery_view(0x5F2F, Ok((18, 2))),
                 discovery_view(0x4F, Ok((4, 11))),
-                discovery_view(0x5F, Err((6, 0))),
-                discovery_view(0x2F, Err((6, 0))),
-                discovery_view(u64::MAX, Err((6, 0))),
+                discovery_view(0x5F, Err(alone(6))),
+                discovery_view(0x2F, Err(alone(6))),
+                discovery_view(u64::MAX, Err(alone(6))),
             ],
         ),
         (
@@ -842,16 +845,16 @@ fn views() -> Vec<Group> {
                 keymgmt_view(0x71, Ok((14, 1))),
                 keymgmt_view(0x72, Ok((17, 2))),
                 keymgmt_view(0xFE, Ok((21, 0))),
-                keymgmt_view(0x30, Err((6, 0))),
-                view(10, &certificate(10, &LEAST, 0, None).container(), 0x72, Err((6, 0))),
-                view(10, &certificate(10, &LEVEL_9, 0, None).container(), 0x70, Err((25, 2))),
+                keymgmt_view(0x30, Err(alone(6))),
+                view(10, &certificate(10, &LEAST, 0, None).container(), 0x72, Err(alone(6))),
+                view(10, &certificate(10, &LEVEL_9, 0, None).container(), 0x70, Err((25, 2, Some(0x70)))),
             ],
         ),
     ]
 }
 
 /// The report of case R.
-pub const CASE_R: &str = "CARD 4\nkind CHUID\nbytes 61\ntoday 20260301\nverdict 0 0\nELEMENTS 5\n30 25\n34 16\n35 8\n3E 0\nFE 0\nOPEN 3\nagency 1234\nsystem 0001\nexpires 20300131\n";
+pub const CASE_R: &str = "CARD 4\nkind CHUID\nbytes 61\ntoday 20260301\nverdict 0 0 --\nELEMENTS 5\n30 25\n34 16\n35 8\n3E 0\nFE 0\nOPEN 3\nagency 1234\nsystem 0001\nexpires 20300131\n";
 
 /// A conforming card's report and a broken one's, each told by what differs from others.
 fn pair(name: &'static str, conforming: Card, lines: &str, broken: Card, verdict: &str) -> Group {
@@ -862,7 +865,7 @@ fn pair(name: &'static str, conforming: Card, lines: &str, broken: Card, verdict
             format!("CARD 4\nkind {}\nbytes {}\ntoday 20260301\nverdict {}\n{}", kind, container.len(), verdict, lines);
         report(card.kind, &container, 512, Ok(&text))
     };
-    (name, vec![page(conforming, "0 0", lines), page(broken, verdict, "ELEMENTS 0\nOPEN 0\n")])
+    (name, vec![page(conforming, "0 0 --", lines), page(broken, verdict, "ELEMENTS 0\nOPEN 0\n")])
 }
 
 fn reports() -> Vec<Group> {
@@ -883,77 +886,77 @@ fn reports() -> Vec<Group> {
             ccc(0x10),
             "ELEMENTS 13\nF0 21\nF1 1\nF2 1\nF3 0\nF4 1\nF5 1\nF6 17\nF7 0\nFA 0\nFB 0\nFC 0\nFD 0\nFE 0\nOPEN 1\nmodel 10\n",
             ccc(0x11),
-            "20 36",
+            "20 36 F5",
         ),
         pair(
             "CHUID reported, conforming and broken",
             whole_chuid(&[0x30, 3, 1, 1, 0xFF]),
             "ELEMENTS 9\nEE 2\n30 25\n32 4\n33 9\n34 16\n35 8\n36 16\n3E 5\nFE 0\nOPEN 3\nagency 1234\nsystem 0001\nexpires 20300131\n",
             chuid(&wrong_fascn(), EXPIRES, &[]),
-            "17 2",
+            "17 2 30",
         ),
         pair(
             "DISCOVERY reported, conforming and broken",
             discovery([0x60, 0x10]),
             "ELEMENTS 2\n4F 11\n5F2F 2\nOPEN 1\npolicy 6010\n",
             discovery([0x60, 0]),
-            "20 15",
+            "20 15 5F2F",
         ),
         pair(
             "PRINTED reported, conforming and broken",
             printed(b"AGENT", EXPIRES),
             "ELEMENTS 6\n01 9\n02 5\n04 8\n05 4\n06 15\nFE 0\nOPEN 1\nissuer GENERIC SENDER \n",
             printed(b"AGENT", b"20300230"),
-            "19 20",
+            "19 20 04",
         ),
         pair(
             "SECURITY reported, conforming and broken",
             security(&[1, 2], &[3; 140]),
             "ELEMENTS 3\nBA 2\nBB 140\nFE 0\nOPEN 0\n",
             card(5, &[Some(&[]), Some(&[]), None]),
-            "15 6",
+            "15 6 --",
         ),
         pair(
             "FINGERS reported, conforming and broken",
             fingers(100, b'0', [1, 2]),
             &format!("ELEMENTS 2\nBC 145\nFE 0\n{}", agency),
             fingers(100, 0, [3, 5]),
-            "22 3",
+            "22 3 BC",
         ),
         pair(
             "FACE reported, conforming and broken",
             face(100, 3, 4),
             &format!("ELEMENTS 2\nBC 95\nFE 0\n{}", agency),
             face(0xFF, 300, 40),
-            "21 4",
+            "21 4 BC",
         ),
         pair(
             "PIVAUTH reported, conforming and broken",
             certificate(8, RSA, 0, None),
             "ELEMENTS 3\n70 1091\n71 1\nFE 0\nOPEN 0\n",
             certificate(8, COMPRESSED, 1, None),
-            "24 4",
+            "24 4 70",
         ),
         pair(
             "DIGSIG reported, conforming and broken",
             certificate(9, P256, 0, Some(&[])),
             "ELEMENTS 4\n70 435\n71 1\n72 0\nFE 0\nOPEN 0\n",
             certificate(9, &LEVEL_9, 0, None),
-            "25 2",
+            "25 2 70",
         ),
         pair(
             "KEYMGMT reported, conforming and broken",
             certificate(10, &LEAST, 0, Some(&[0x41; 38])),
             "ELEMENTS 4\n70 8\n71 1\n72 38\nFE 0\nOPEN 0\n",
             certificate(10, &LEAST, 1, None),
-            "20 12",
+            "20 12 71",
         ),
         pair(
             "CARDAUTH reported, conforming and broken",
             certificate(11, &LEAST, 0, None),
             "ELEMENTS 3\n70 8\n71 1\nFE 0\nOPEN 0\n",
             certificate(11, &LEAST, 0, Some(&[0x41; 39])),
-            "16 15",
+            "16 15 72",
         ),
         (
             "report refused: kind 0, no date, and a container of 32,769 bytes; the room is judged before that",

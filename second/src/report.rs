@@ -1,6 +1,6 @@
 //! The desk report and the desk program.
 
-use crate::card::{self, Spans};
+use crate::card::{self, Row, Spans, Verdict};
 use crate::values;
 use crate::{number, CONTAINER_MAX, REPORT_MAX};
 
@@ -46,6 +46,12 @@ impl Page<'_> {
         }
     }
 
+    /// Two digits, or four for a tag of two bytes.
+    fn tag(&mut self, tag: u16) {
+        let bytes = tag.to_be_bytes();
+        self.hex(if tag > 0xFF { &bytes } else { &bytes[1..] });
+    }
+
     fn end_line(&mut self) {
         self.bytes(b"\n");
     }
@@ -54,6 +60,20 @@ impl Page<'_> {
         self.text(name);
         self.bytes(b" ");
         self.decimal(number, width);
+        self.end_line();
+    }
+
+    /// The line of a verdict that is not 0. Two hyphens stand for no tag.
+    fn verdict(&mut self, (number, place, tag): Verdict) {
+        self.text("verdict ");
+        self.decimal(number, 1);
+        self.bytes(b" ");
+        self.decimal(place, 1);
+        self.bytes(b" ");
+        match tag {
+            Some(tag) => self.tag(tag),
+            None => self.text("--"),
+        }
         self.end_line();
     }
 }
@@ -82,10 +102,10 @@ fn try_report(kind_number: u64, today: u64, container: &[u8], room: &mut [u8]) -
     }
 
     let mut spans = Spans::none();
-    let mut elements = 0;
-    let verdict = card::walk(kind, today, container, |row, start, end| {
+    let mut count = 0;
+    let outcome = card::walk(kind, today, container, |row, start, end| {
         spans.set(row, start, end);
-        elements += 1;
+        count += 1;
     });
 
     let mut page = Page { room: &mut room[..REPORT_MAX], length: 0 };
@@ -94,36 +114,37 @@ fn try_report(kind_number: u64, today: u64, container: &[u8], room: &mut [u8]) -
     page.end_line();
     page.line("bytes", container.len() as u64, 1);
     page.line("today", today, 8);
-    page.text("verdict ");
-    match verdict {
-        Err((number, place)) => {
-            page.decimal(number, 1);
-            page.bytes(b" ");
-            page.decimal(place, 1);
-            page.text("\nELEMENTS 0\nOPEN 0\n");
-        }
-        Ok(()) => {
-            page.text("0 0\n");
-            page.line("ELEMENTS", elements, 1);
-            for (i, row) in kind.rows.iter().enumerate() {
-                if let Some(value) = spans.value(i, container) {
-                    let tag = row.tag.to_be_bytes();
-                    page.hex(if row.tag > 0xFF { &tag } else { &tag[1..] });
-                    page.bytes(b" ");
-                    page.decimal(value.len() as u64, 1);
-                    page.end_line();
-                }
-            }
-            open_values(&mut page, kind_number, |tag| {
-                let row = kind.rows.iter().position(|row| row.tag == tag);
-                row.and_then(|row| spans.value(row, container)).unwrap_or(&[])
-            });
-        }
+    if let Err(broken) = outcome {
+        page.verdict(broken);
+        page.text("ELEMENTS 0\nOPEN 0\n");
+    } else {
+        page.text("verdict 0 0 --\n");
+        page.line("ELEMENTS", count, 1);
+        elements(&mut page, kind.rows, |row| spans.value(row, container));
+        open_values(&mut page, kind_number, |tag| {
+            let row = kind.rows.iter().position(|row| row.tag == tag);
+            row.and_then(|row| spans.value(row, container)).unwrap_or(&[])
+        });
     }
     if page.length > REPORT_MAX {
         return Err(number::REPORT_TOO_LONG);
     }
     Ok(page.length)
+}
+
+/// The lines of the section ELEMENTS of a conforming container, whose values `value` finds by row.
+fn elements<'a, F>(page: &mut Page, rows: &[Row], value: F)
+where
+    F: Fn(usize) -> Option<&'a [u8]>,
+{
+    for (i, row) in rows.iter().enumerate() {
+        if let Some(value) = value(i) {
+            page.tag(row.tag);
+            page.bytes(b" ");
+            page.decimal(value.len() as u64, 1);
+            page.end_line();
+        }
+    }
 }
 
 /// The section OPEN of a conforming container, whose mandatory values `value` finds by tag.

@@ -12,16 +12,16 @@ fn batch(seed: u64, count: usize) -> Vec<Record> {
 
 #[test]
 fn batches_are_fixed() {
-    assert!(batch(7, 3_000) == batch(7, 3_000));
-    assert!(batch(7, 3_000) != batch(8, 3_000));
-    assert!(batch(7, 3_000).starts_with(&batch(7, 2_000)));
+    assert!(batch(7, 30_000) == batch(7, 30_000));
+    assert!(batch(7, 30_000) != batch(8, 30_000));
+    assert!(batch(7, 30_000).starts_with(&batch(7, 20_000)));
 }
 
 #[test]
 fn records_keep_to_the_limits() {
-    for record in batch(9, 50_000) {
+    for record in batch(9, 70_000) {
         assert!(record.room <= ROOM_MAX && record.bytes.len() <= BYTES_MAX);
-        assert!(record.tag == 0 || record.call == Call::View);
+        assert!(record.element == 0 || record.call == Call::View);
         assert!((record.room == 0 && record.fill == 0) || !matches!(record.call, Call::View | Call::FascnDecode));
         if record.call == Call::FascnEncode {
             assert_eq!(record.bytes.len(), 72);
@@ -32,7 +32,7 @@ fn records_keep_to_the_limits() {
 #[test]
 fn every_number_occurs() {
     let mut tally = Tally::default();
-    for record in batch(4, 20_000) {
+    for record in batch(4, 40_000) {
         tally.count(record.call, &record.answer());
     }
     assert_eq!(tally.never(), []);

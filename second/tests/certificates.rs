@@ -142,7 +142,7 @@ fn other_depths() {
 fn calls_on_certificates_are_made() {
     let mut inputs = Inputs::new(14);
     let mut seen = BTreeSet::new();
-    for _ in 0..60_000 {
+    for _ in 0..80_000 {
         let record = inputs.record();
         if certificate_kinds().contains(&record.kind) && !matches!(record.call, Call::FascnDecode | Call::FascnEncode) {
             let answer = record.answer();

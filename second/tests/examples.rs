@@ -1,6 +1,6 @@
 //! 01's examples, and the cases that it names to be run.
 
-use second::card::{all_kinds, length_at, LAST_KIND};
+use second::card::{all_kinds, length_at, CONFORMS, LAST_KIND};
 use second::generate::{example_chuid, small, EXAMPLE_DAY, EXAMPLE_DISCOVERY, EXAMPLE_FASCN};
 use second::named::{self, CASE_R};
 use second::report::DESK_INPUT_MAX;
@@ -92,32 +92,32 @@ fn p9_to_p12_dates() {
     assert_eq!(text_date(b"21000229"), None);
     assert!(is_expiry(b"20320301", EXAMPLE_DAY));
     assert!(!is_expiry(b"20320302", EXAMPLE_DAY));
-    assert_eq!(verdict(2, EXAMPLE_DAY, &example_chuid(b"20320301")), (0, 0));
-    assert_eq!(verdict(2, EXAMPLE_DAY, &example_chuid(b"20320302")), (19, 47));
-    assert_eq!(verdict(2, EXAMPLE_DAY, &example_chuid(b"20260301")), (0, 0));
-    assert_eq!(verdict(2, EXAMPLE_DAY, &example_chuid(b"20260228")), (19, 47));
+    assert_eq!(verdict(2, EXAMPLE_DAY, &example_chuid(b"20320301")), CONFORMS);
+    assert_eq!(verdict(2, EXAMPLE_DAY, &example_chuid(b"20320302")), (19, 47, Some(0x35)));
+    assert_eq!(verdict(2, EXAMPLE_DAY, &example_chuid(b"20260301")), CONFORMS);
+    assert_eq!(verdict(2, EXAMPLE_DAY, &example_chuid(b"20260228")), (19, 47, Some(0x35)));
     for (today, number) in
         [(0, 2), (10_101, 0), (99991231, 0), (99999999, 2), (20230229, 2), (10_100, 2), (100_000_101, 2), (u64::MAX, 2)]
     {
-        assert_eq!(verdict(3, today, &EXAMPLE_DISCOVERY), (number, 0));
+        assert_eq!(verdict(3, today, &EXAMPLE_DISCOVERY), (number, 0, None));
     }
 }
 
 #[test]
 fn p13_p14_discovery() {
-    assert_eq!(verdict(3, EXAMPLE_DAY, &EXAMPLE_DISCOVERY), (0, 0));
+    assert_eq!(verdict(3, EXAMPLE_DAY, &EXAMPLE_DISCOVERY), CONFORMS);
     let mut wrong = EXAMPLE_DISCOVERY;
     wrong[18] = 0x60;
-    assert_eq!(verdict(3, EXAMPLE_DAY, &wrong), (20, 15));
+    assert_eq!(verdict(3, EXAMPLE_DAY, &wrong), (20, 15, Some(0x5F2F)));
     // 5F without 2F is 13 at its own offset, at the end too.
-    assert_eq!(verdict(3, EXAMPLE_DAY, &[0x7E, 0x01, 0x5F]), (13, 2));
+    assert_eq!(verdict(3, EXAMPLE_DAY, &[0x7E, 0x01, 0x5F]), (13, 2, Some(0x5F)));
     let mut lone = EXAMPLE_DISCOVERY;
     lone[16] = 0x2E;
-    assert_eq!(verdict(3, EXAMPLE_DAY, &lone), (13, 15));
+    assert_eq!(verdict(3, EXAMPLE_DAY, &lone), (13, 15, Some(0x5F)));
     // 5F2F first: 4F was passed over.
-    assert_eq!(verdict(3, EXAMPLE_DAY, &[0x7E, 0x05, 0x5F, 0x2F, 0x02, 0x40, 0x00]), (15, 2));
-    // Only the first tag of another kind is looked at.
-    assert_eq!(verdict(2, EXAMPLE_DAY, &[0x53, 0x05, 0x5F, 0x2F, 0x02, 0x40, 0x00]), (13, 2));
+    assert_eq!(verdict(3, EXAMPLE_DAY, &[0x7E, 0x05, 0x5F, 0x2F, 0x02, 0x40, 0x00]), (15, 2, Some(0x5F2F)));
+    // Every tag of another kind has one byte.
+    assert_eq!(verdict(2, EXAMPLE_DAY, &[0x53, 0x05, 0x5F, 0x2F, 0x02, 0x40, 0x00]), (13, 2, Some(0x5F)));
 }
 
 #[test]
@@ -150,20 +150,20 @@ fn other_reports() {
     };
     assert_eq!(
         text(3, &EXAMPLE_DISCOVERY),
-        "CARD 4\nkind DISCOVERY\nbytes 20\ntoday 00010101\nverdict 0 0\nELEMENTS 2\n4F 11\n5F2F 2\nOPEN 1\npolicy 4000\n"
+        "CARD 4\nkind DISCOVERY\nbytes 20\ntoday 00010101\nverdict 0 0 --\nELEMENTS 2\n4F 11\n5F2F 2\nOPEN 1\npolicy 4000\n"
     );
-    assert_eq!(text(3, &[]), "CARD 4\nkind DISCOVERY\nbytes 0\ntoday 00010101\nverdict 10 0\nELEMENTS 0\nOPEN 0\n");
+    assert_eq!(text(3, &[]), "CARD 4\nkind DISCOVERY\nbytes 0\ntoday 00010101\nverdict 10 0 --\nELEMENTS 0\nOPEN 0\n");
     assert_eq!(
         text(1, &small(1)),
-        "CARD 4\nkind CCC\nbytes 29\ntoday 00010101\nverdict 0 0\nELEMENTS 13\nF0 0\nF1 0\nF2 0\nF3 0\nF4 0\nF5 1\nF6 0\nF7 0\nFA 0\nFB 0\nFC 0\nFD 0\nFE 0\nOPEN 1\nmodel 10\n"
+        "CARD 4\nkind CCC\nbytes 29\ntoday 00010101\nverdict 0 0 --\nELEMENTS 13\nF0 0\nF1 0\nF2 0\nF3 0\nF4 0\nF5 1\nF6 0\nF7 0\nFA 0\nFB 0\nFC 0\nFD 0\nFE 0\nOPEN 1\nmodel 10\n"
     );
     assert_eq!(
         text(4, &small(4)),
-        "CARD 4\nkind PRINTED\nbytes 57\ntoday 00010101\nverdict 0 0\nELEMENTS 6\n01 11\n02 5\n04 8\n05 4\n06 15\nFE 0\nOPEN 1\nissuer ISSUER 00000001\n"
+        "CARD 4\nkind PRINTED\nbytes 57\ntoday 00010101\nverdict 0 0 --\nELEMENTS 6\n01 11\n02 5\n04 8\n05 4\n06 15\nFE 0\nOPEN 1\nissuer ISSUER 00000001\n"
     );
     assert_eq!(
         text(5, &small(5)),
-        "CARD 4\nkind SECURITY\nbytes 10\ntoday 00010101\nverdict 0 0\nELEMENTS 3\nBA 1\nBB 1\nFE 0\nOPEN 0\n"
+        "CARD 4\nkind SECURITY\nbytes 10\ntoday 00010101\nverdict 0 0 --\nELEMENTS 3\nBA 1\nBB 1\nFE 0\nOPEN 0\n"
     );
     let mut face = small(7);
     let at = face.len() - 2 - 90;
@@ -171,7 +171,7 @@ fn other_reports() {
     face[at + 59..at + 84].copy_from_slice(&EXAMPLE_FASCN);
     assert_eq!(
         text(7, &face),
-        "CARD 4\nkind FACE\nbytes 96\ntoday 00010101\nverdict 0 0\nELEMENTS 2\nBC 90\nFE 0\nOPEN 2\nagency 1234\nsystem 0001\n"
+        "CARD 4\nkind FACE\nbytes 96\ntoday 00010101\nverdict 0 0 --\nELEMENTS 2\nBC 90\nFE 0\nOPEN 2\nagency 1234\nsystem 0001\n"
     );
 }
 
@@ -201,7 +201,7 @@ fn desk_inputs() {
             assert_eq!(desk(&input[..length]), b"refused 2\n");
         }
         let report = String::from_utf8(desk(&input)).unwrap();
-        assert!(report.ends_with("\nbytes 0\ntoday 20260301\nverdict 10 0\nELEMENTS 0\nOPEN 0\n"), "{}", report);
+        assert!(report.ends_with("\nbytes 0\ntoday 20260301\nverdict 10 0 --\nELEMENTS 0\nOPEN 0\n"), "{}", report);
     }
     assert_eq!(desk(b"02202603O1"), b"refused 2\n");
     assert_eq!(desk(b"0220230229"), b"refused 2\n");
@@ -209,7 +209,7 @@ fn desk_inputs() {
     long.resize(10 + 32_768, 0);
     assert_eq!(
         desk(&long),
-        &b"CARD 4\nkind CHUID\nbytes 32768\ntoday 20260301\nverdict 10 0\nELEMENTS 0\nOPEN 0\n"[..]
+        &b"CARD 4\nkind CHUID\nbytes 32768\ntoday 20260301\nverdict 10 0 --\nELEMENTS 0\nOPEN 0\n"[..]
     );
     long.push(0);
     assert_eq!(long.len(), DESK_INPUT_MAX);
@@ -225,7 +225,7 @@ fn quality_bytes() {
     for (kind, header) in [(6, 6), (7, 4)] {
         let good = small(kind);
         assert_eq!(good[header..header + 2], [0x03, 0x0D]);
-        assert_eq!(verdict(kind, EXAMPLE_DAY, &good), (0, 0));
+        assert_eq!(verdict(kind, EXAMPLE_DAY, &good), CONFORMS);
         for quality in 0..=255u8 {
             let mut container = good.clone();
             container[header + 40] = quality;
@@ -235,7 +235,8 @@ fn quality_bytes() {
                 _ => false,
             };
             let place = if kind == 6 { 3 } else { 2 };
-            assert_eq!(verdict(kind, EXAMPLE_DAY, &container), if kept { (0, 0) } else { (21, place) });
+            let expected = if kept { CONFORMS } else { (21, place, Some(0xBC)) };
+            assert_eq!(verdict(kind, EXAMPLE_DAY, &container), expected);
         }
     }
 }
@@ -244,47 +245,47 @@ fn quality_bytes() {
 fn empty_and_outer() {
     for kind in all_kinds() {
         let outer = if kind == 3 { 0x7E } else { 0x53 };
-        assert_eq!(verdict(kind, EXAMPLE_DAY, &[]), (10, 0));
-        assert_eq!(verdict(kind, EXAMPLE_DAY, &[outer ^ 1, 0]), (10, 0));
-        assert_eq!(verdict(kind, EXAMPLE_DAY, &[outer]), (11, 0));
-        assert_eq!(verdict(kind, EXAMPLE_DAY, &[outer, 0x80]), (11, 0));
-        assert_eq!(verdict(kind, EXAMPLE_DAY, &[outer, 0x81, 0x01]), (11, 0));
-        assert_eq!(verdict(kind, EXAMPLE_DAY, &[outer, 0x82, 0x01]), (11, 0));
-        assert_eq!(verdict(kind, EXAMPLE_DAY, &[outer, 0x01]), (12, 0));
-        assert_eq!(verdict(kind, EXAMPLE_DAY, &[outer, 0x00, 0x00]), (12, 0));
-        assert_eq!(verdict(kind, EXAMPLE_DAY, &[outer, 0x00]), (15, 2));
+        assert_eq!(verdict(kind, EXAMPLE_DAY, &[]), (10, 0, None));
+        assert_eq!(verdict(kind, EXAMPLE_DAY, &[outer ^ 1, 0]), (10, 0, None));
+        assert_eq!(verdict(kind, EXAMPLE_DAY, &[outer]), (11, 0, None));
+        assert_eq!(verdict(kind, EXAMPLE_DAY, &[outer, 0x80]), (11, 0, None));
+        assert_eq!(verdict(kind, EXAMPLE_DAY, &[outer, 0x81, 0x01]), (11, 0, None));
+        assert_eq!(verdict(kind, EXAMPLE_DAY, &[outer, 0x82, 0x01]), (11, 0, None));
+        assert_eq!(verdict(kind, EXAMPLE_DAY, &[outer, 0x01]), (12, 0, None));
+        assert_eq!(verdict(kind, EXAMPLE_DAY, &[outer, 0x00, 0x00]), (12, 0, None));
+        assert_eq!(verdict(kind, EXAMPLE_DAY, &[outer, 0x00]), (15, 2, None));
     }
     for kind in [0, LAST_KIND + 1, 256 + 2, u64::MAX] {
-        assert_eq!(verdict(kind, 0, &vec![0; 40_000]), (1, 0));
-        assert_eq!(view(kind, 0, &[1, 2], 0x30).0, 1);
+        assert_eq!(verdict(kind, 0, &vec![0; 40_000]), (1, 0, None));
+        assert_eq!(view(kind, 0, &[1, 2], 0x30).0, (1, 0, None));
     }
-    assert_eq!(verdict(2, 0, &vec![0; 40_000]), (2, 0));
-    assert_eq!(verdict(2, EXAMPLE_DAY, &vec![0; 32_769]), (4, 0));
-    assert_eq!(verdict(2, EXAMPLE_DAY, &vec![0; 32_768]), (10, 0));
+    assert_eq!(verdict(2, 0, &vec![0; 40_000]), (2, 0, None));
+    assert_eq!(verdict(2, EXAMPLE_DAY, &vec![0; 32_769]), (4, 0, None));
+    assert_eq!(verdict(2, EXAMPLE_DAY, &vec![0; 32_768]), (10, 0, None));
 }
 
 #[test]
 fn element_orders() {
-    let day = EXAMPLE_DAY;
+    let said = |content: &[u8]| verdict(5, EXAMPLE_DAY, &[&[0x53, content.len() as u8], content].concat());
     // SECURITY: BA, BB, FE.
-    assert_eq!(verdict(5, day, &[0x53, 6, 0xBA, 0, 0xBB, 0, 0xFE, 0]), (0, 0));
-    assert_eq!(verdict(5, day, &[0x53, 4, 0xBA, 0, 0xFE, 0]), (15, 4));
-    assert_eq!(verdict(5, day, &[0x53, 4, 0xBA, 0, 0xBB, 0]), (15, 6));
-    assert_eq!(verdict(5, day, &[0x53, 4, 0xBA, 0, 0xBA, 0]), (14, 4));
-    assert_eq!(verdict(5, day, &[0x53, 6, 0xBA, 0, 0xBB, 0, 0xBA, 0]), (14, 6));
+    assert_eq!(said(&[0xBA, 0, 0xBB, 0, 0xFE, 0]), CONFORMS);
+    assert_eq!(said(&[0xBA, 0, 0xFE, 0]), (15, 4, Some(0xFE)));
+    assert_eq!(said(&[0xBA, 0, 0xBB, 0]), (15, 6, None));
+    assert_eq!(said(&[0xBA, 0, 0xBA, 0]), (14, 4, Some(0xBA)));
+    assert_eq!(said(&[0xBA, 0, 0xBB, 0, 0xBA, 0]), (14, 6, Some(0xBA)));
     // 13 before 15, 15 before 11, 11 before 12, 12 before 16.
-    assert_eq!(verdict(5, day, &[0x53, 2, 0x30, 0]), (13, 2));
-    assert_eq!(verdict(5, day, &[0x53, 1, 0xBB]), (15, 2));
-    assert_eq!(verdict(5, day, &[0x53, 1, 0xBA]), (11, 2));
-    assert_eq!(verdict(5, day, &[0x53, 2, 0xBA, 0x81]), (11, 2));
-    assert_eq!(verdict(5, day, &[0x53, 3, 0xBA, 0x81, 31]), (11, 2));
-    assert_eq!(verdict(5, day, &[0x53, 2, 0xBA, 31]), (12, 2));
-    let mut long = vec![0x53, 33, 0xBA, 31];
+    assert_eq!(said(&[0x30, 0]), (13, 2, Some(0x30)));
+    assert_eq!(said(&[0xBB]), (15, 2, Some(0xBB)));
+    assert_eq!(said(&[0xBA]), (11, 2, Some(0xBA)));
+    assert_eq!(said(&[0xBA, 0x81]), (11, 2, Some(0xBA)));
+    assert_eq!(said(&[0xBA, 0x81, 31]), (11, 2, Some(0xBA)));
+    assert_eq!(said(&[0xBA, 31]), (12, 2, Some(0xBA)));
+    let mut long = vec![0xBA, 31];
     long.extend([0; 31]);
-    assert_eq!(verdict(5, day, &long), (16, 2));
+    assert_eq!(said(&long), (16, 2, Some(0xBA)));
     // After the last row everything known is 14.
-    assert_eq!(verdict(5, day, &[0x53, 8, 0xBA, 0, 0xBB, 0, 0xFE, 0, 0xFE, 0]), (14, 8));
-    assert_eq!(verdict(5, day, &[0x53, 8, 0xBA, 0, 0xBB, 0, 0xFE, 0, 0x00, 0]), (13, 8));
+    assert_eq!(said(&[0xBA, 0, 0xBB, 0, 0xFE, 0, 0xFE, 0]), (14, 8, Some(0xFE)));
+    assert_eq!(said(&[0xBA, 0, 0xBB, 0, 0xFE, 0, 0x00, 0]), (13, 8, Some(0x00)));
 }
 
 #[test]
@@ -292,48 +293,49 @@ fn views() {
     let container = example_chuid(b"20300131");
     let start = container.as_ptr() as usize;
     for (tag, at, length) in [(0x30, 4, 25), (0x34, 31, 16), (0x35, 49, 8), (0x3E, 59, 0), (0xFE, 61, 0)] {
-        let (number, place, part) = view(2, EXAMPLE_DAY, &container, tag);
-        assert_eq!((number, place, part.len()), (0, 0, length));
+        let (verdict, part) = view(2, EXAMPLE_DAY, &container, tag);
+        assert_eq!((verdict, part.len()), (CONFORMS, length));
         assert_eq!(part.as_ptr() as usize, start + at);
     }
     for tag in [0, 0x32, 0x36, 0xBC, 0x5F, 0x2F, 0x5F2F, 0x130, 0x3000, u64::MAX] {
-        let (number, place, part) = view(2, EXAMPLE_DAY, &container, tag);
-        assert_eq!((number, place, part.len()), (6, 0, 0));
+        let (verdict, part) = view(2, EXAMPLE_DAY, &container, tag);
+        assert_eq!((verdict, part.len()), ((6, 0, None), 0));
         assert_eq!(part.as_ptr() as usize, start);
     }
-    let (number, place, part) = view(2, EXAMPLE_DAY + 60_000, &container, 0x30);
-    assert_eq!((number, place, part.len()), (19, 47, 0));
+    let (verdict, part) = view(2, EXAMPLE_DAY + 60_000, &container, 0x30);
+    assert_eq!((verdict, part.len()), ((19, 47, Some(0x35)), 0));
     assert_eq!(part.as_ptr() as usize, start);
-    assert_eq!(view(3, EXAMPLE_DAY, &EXAMPLE_DISCOVERY, 0x5F2F), (0, 0, &[0x40, 0x00][..]));
-    assert_eq!(view(3, EXAMPLE_DAY, &EXAMPLE_DISCOVERY, 0x5F).0, 6);
-    assert_eq!(view(3, EXAMPLE_DAY, &EXAMPLE_DISCOVERY, 0x2F).0, 6);
+    assert_eq!(view(3, EXAMPLE_DAY, &EXAMPLE_DISCOVERY, 0x5F2F), (CONFORMS, &[0x40, 0x00][..]));
+    assert_eq!(view(3, EXAMPLE_DAY, &EXAMPLE_DISCOVERY, 0x5F).0, (6, 0, None));
+    assert_eq!(view(3, EXAMPLE_DAY, &EXAMPLE_DISCOVERY, 0x2F).0, (6, 0, None));
 }
 
 #[test]
 fn sheets() {
     let sheet = [0, 1, 0, 3, 7, 8, 0, 1];
     let mut room = [0xAA; 20];
-    assert_eq!(write(5, EXAMPLE_DAY, &sheet, &mut room), (0, 0, 10));
+    assert_eq!(write(5, EXAMPLE_DAY, &sheet, &mut room), (CONFORMS, 10));
     assert_eq!(room[..10], [0x53, 8, 0xBA, 0, 0xBB, 2, 7, 8, 0xFE, 0]);
     assert_eq!(room[10..], [0; 10]);
     let container = room[..10].to_vec();
     let mut room = [0xAA; 9];
-    assert_eq!(write(5, EXAMPLE_DAY, &sheet, &mut room), (3, 0, 0));
+    assert_eq!(write(5, EXAMPLE_DAY, &sheet, &mut room), ((3, 0, None), 0));
     assert_eq!(room, [0; 9]);
+    let conforms = |room, length| Checked { number: 0, place: 0, tag: None, room, length };
     let mut room = [0xAA; 9];
-    assert_eq!(check(5, EXAMPLE_DAY, &container, &mut room), Checked { number: 0, place: 0, room: 0, length: 8 });
+    assert_eq!(check(5, EXAMPLE_DAY, &container, &mut room), conforms(0, 8));
     assert_eq!(room, [0, 1, 0, 3, 7, 8, 0, 1, 0]);
     let mut room = [0xAA; 7];
-    assert_eq!(check(5, EXAMPLE_DAY, &container, &mut room), Checked { number: 0, place: 0, room: 3, length: 0 });
+    assert_eq!(check(5, EXAMPLE_DAY, &container, &mut room), conforms(3, 0));
     assert_eq!(room, [0; 7]);
     // Cut short, left over, a missing row, a length.
     for cut in 0..8 {
-        assert_eq!(write(5, EXAMPLE_DAY, &sheet[..cut], &mut room), (5, 0, 0));
+        assert_eq!(write(5, EXAMPLE_DAY, &sheet[..cut], &mut room), ((5, 0, None), 0));
     }
-    assert_eq!(write(5, EXAMPLE_DAY, &[0, 1, 0, 3, 7, 8, 0, 1, 0], &mut room), (5, 0, 0));
-    assert_eq!(write(5, EXAMPLE_DAY, &[0, 1, 0, 0, 0, 1], &mut room), (15, 2, 0));
-    assert_eq!(write(5, EXAMPLE_DAY, &[0, 1, 0, 3, 7, 8, 0, 2, 0], &mut room), (16, 6, 0));
-    assert_eq!(write(5, EXAMPLE_DAY, &[0, 0, 0, 0, 0, 0, 0], &mut room), (5, 0, 0));
-    assert_eq!(write(0, 0, &[], &mut room), (1, 0, 0));
-    assert_eq!(write(5, 0, &[], &mut room), (2, 0, 0));
+    assert_eq!(write(5, EXAMPLE_DAY, &[0, 1, 0, 3, 7, 8, 0, 1, 0], &mut room), ((5, 0, None), 0));
+    assert_eq!(write(5, EXAMPLE_DAY, &[0, 1, 0, 0, 0, 1], &mut room), ((15, 2, Some(0xBB)), 0));
+    assert_eq!(write(5, EXAMPLE_DAY, &[0, 1, 0, 3, 7, 8, 0, 2, 0], &mut room), ((16, 6, Some(0xFE)), 0));
+    assert_eq!(write(5, EXAMPLE_DAY, &[0, 0, 0, 0, 0, 0, 0], &mut room), ((5, 0, None), 0));
+    assert_eq!(write(0, 0, &[], &mut room), ((1, 0, None), 0));
+    assert_eq!(write(5, 0, &[], &mut room), ((2, 0, None), 0));
 }

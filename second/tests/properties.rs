@@ -1,7 +1,7 @@
 //! Properties over generated inputs.
 
 use second::batch::Call;
-use second::card::{self, all_kinds};
+use second::card::{self, all_kinds, CONFORMS};
 use second::generate::{conforming, conforming_of_size, endless_kinds, personal_twin, small, Inputs, Rng, EXAMPLE_DAY};
 use second::{check, report, view, write, Checked, SHEET_ROOM};
 
@@ -21,12 +21,21 @@ fn check_into(kind: u64, today: u64, container: &[u8], size: usize) -> (Checked,
 
 /// What a check gives of a conforming container with this sheet, where the room suffices.
 fn sheet_told(sheet: &[u8]) -> (Checked, Vec<u8>) {
-    (Checked { number: 0, place: 0, room: 0, length: sheet.len() as u64 }, sheet.to_vec())
+    (Checked { number: 0, place: 0, tag: None, room: 0, length: sheet.len() as u64 }, sheet.to_vec())
 }
 
 /// What it gives where the room is too short.
 fn too_short() -> (Checked, Vec<u8>) {
-    (Checked { number: 0, place: 0, room: 3, length: 0 }, Vec::new())
+    (Checked { number: 0, place: 0, tag: None, room: 3, length: 0 }, Vec::new())
+}
+
+/// A tag as the report's line has it.
+fn tag_text(tag: Option<u16>) -> String {
+    match tag {
+        Some(0x5F2F) => "5F2F".to_string(),
+        Some(byte) => format!("{:02X}", byte),
+        None => "--".to_string(),
+    }
 }
 
 fn report_of(kind: u64, today: u64, container: &[u8]) -> Vec<u8> {
@@ -44,11 +53,11 @@ fn round_trips() {
         for _ in 0..ROUNDS {
             let card = conforming(&mut rng, kind);
             let (container, sheet) = (card.container(), card.sheet());
-            assert_eq!(verdict(kind, card.today, &container), (0, 0));
+            assert_eq!(verdict(kind, card.today, &container), CONFORMS);
 
             assert_eq!(check_into(kind, card.today, &container, sheet.len() + 3), sheet_told(&sheet));
             let mut room = vec![0xAA; container.len() + 3];
-            assert_eq!(write(kind, card.today, &sheet, &mut room), (0, 0, container.len() as u64));
+            assert_eq!(write(kind, card.today, &sheet, &mut room), (CONFORMS, container.len() as u64));
             assert_eq!(room[..container.len()], container);
             assert_eq!(room[container.len()..], [0; 3]);
 
@@ -56,17 +65,17 @@ fn round_trips() {
             assert_eq!(check_into(kind, card.today, &container, sheet.len()), sheet_told(&sheet));
             assert_eq!(check_into(kind, card.today, &container, sheet.len() - 1), too_short());
             let mut room = vec![0xAA; container.len()];
-            assert_eq!(write(kind, card.today, &sheet, &mut room).0, 0);
+            assert_eq!(write(kind, card.today, &sheet, &mut room).0, CONFORMS);
             let mut room = vec![0xAA; container.len() - 1];
-            assert_eq!(write(kind, card.today, &sheet, &mut room), (3, 0, 0));
+            assert_eq!(write(kind, card.today, &sheet, &mut room), ((3, 0, None), 0));
             assert!(room.iter().all(|&byte| byte == 0));
 
             // Each value is viewed where the sheet has it.
             for (row, value) in card::kind_of(kind).unwrap().rows.iter().zip(&card.rows) {
-                let (number, place, part) = view(kind, card.today, &container, u64::from(row.tag));
+                let (verdict, part) = view(kind, card.today, &container, u64::from(row.tag));
                 match value {
-                    None => assert_eq!((number, place, part.len()), (6, 0, 0)),
-                    Some(value) => assert_eq!((number, place, part), (0, 0, &value[..])),
+                    None => assert_eq!((verdict, part.len()), ((6, 0, None), 0)),
+                    Some(value) => assert_eq!((verdict, part), (CONFORMS, &value[..])),
                 }
             }
         }
@@ -82,34 +91,34 @@ fn limits() {
             let card = conforming_of_size(&mut rng, kind, 32_768);
             let (container, sheet) = (card.container(), card.sheet());
             assert_eq!(container.len(), 32_768);
-            assert_eq!(verdict(kind, card.today, &container), (0, 0));
+            assert_eq!(verdict(kind, card.today, &container), CONFORMS);
             let mut room = vec![0xAA; 32_769];
-            assert_eq!(write(kind, card.today, &sheet, &mut room), (0, 0, 32_768));
+            assert_eq!(write(kind, card.today, &sheet, &mut room), (CONFORMS, 32_768));
             assert_eq!(room[..32_768], container);
             assert_eq!(room[32_768], 0);
             for room in [sheet.len(), SHEET_ROOM] {
                 assert_eq!(check_into(kind, card.today, &container, room), sheet_told(&sheet));
             }
             assert_eq!(check_into(kind, card.today, &container, sheet.len() - 1), too_short());
-            assert_eq!(write(kind, card.today, &sheet, &mut [0xAA; 10]), (3, 0, 0));
+            assert_eq!(write(kind, card.today, &sheet, &mut [0xAA; 10]), ((3, 0, None), 0));
 
             let card = conforming_of_size(&mut rng, kind, 32_769);
             let (container, sheet) = (card.container(), card.sheet());
             assert_eq!(container.len(), 32_769);
-            assert_eq!(verdict(kind, card.today, &container), (4, 0));
-            let refused = Checked { number: 4, place: 0, room: 0, length: 0 };
+            assert_eq!(verdict(kind, card.today, &container), (4, 0, None));
+            let refused = Checked { number: 4, place: 0, tag: None, room: 0, length: 0 };
             assert_eq!(check_into(kind, card.today, &container, 40_000), (refused, Vec::new()));
             let mut room = vec![0xAA; 40_000];
-            assert_eq!(write(kind, card.today, &sheet, &mut room), (4, 0, 0));
+            assert_eq!(write(kind, card.today, &sheet, &mut room), ((4, 0, None), 0));
             assert!(room.iter().all(|&byte| byte == 0));
-            assert_eq!(write(kind, card.today, &sheet, &mut [0xAA; 10]), (4, 0, 0));
+            assert_eq!(write(kind, card.today, &sheet, &mut [0xAA; 10]), ((4, 0, None), 0));
             assert_eq!(report(kind, card.today, &container, &mut room), (4, 0));
         }
     }
     // The longest section: 65,534 bytes of 3E.
     let mut card = conforming(&mut rng, 2);
     card.rows[7] = Some(vec![0; 65_534]);
-    assert_eq!(write(2, card.today, &card.sheet(), &mut []), (4, 0, 0));
+    assert_eq!(write(2, card.today, &card.sheet(), &mut []), ((4, 0, None), 0));
 }
 
 /// Demand 3: a report does not change with personal bytes that keep the rules.
@@ -122,7 +131,7 @@ fn reports_hide_personal_bytes() {
             let card = conforming(&mut rng, kind);
             let twin = personal_twin(&mut rng, &card);
             let (one, other) = (card.container(), twin.container());
-            assert_eq!(verdict(kind, card.today, &other), (0, 0));
+            assert_eq!(verdict(kind, card.today, &other), CONFORMS);
             assert_eq!(report_of(kind, card.today, &one), report_of(kind, card.today, &other));
             changed += usize::from(one != other);
         }
@@ -140,7 +149,7 @@ fn reports_show_open_values() {
             let one = conforming(&mut rng, kind);
             let mut other = conforming(&mut rng, kind);
             other.today = one.today;
-            if verdict(kind, other.today, &other.container()) != (0, 0) {
+            if verdict(kind, other.today, &other.container()) != CONFORMS {
                 continue;
             }
             let open = |card: &second::generate::Card| -> Vec<u8> {
@@ -173,17 +182,17 @@ fn reports_show_open_values() {
 #[test]
 fn calls_agree() {
     let mut inputs = Inputs::new(5);
-    for _ in 0..60_000 {
+    for _ in 0..80_000 {
         let record = inputs.record();
         let (kind, today, bytes) = (record.kind, record.today, &record.bytes[..]);
         if matches!(record.call, Call::FascnDecode | Call::FascnEncode) {
             continue;
         }
-        let (Checked { number, place, .. }, sheet) = check_into(kind, today, bytes, bytes.len() + 6);
-        assert_eq!(view(kind, today, bytes, 0).0, if number == 0 { 6 } else { number });
+        let (Checked { number, place, tag, .. }, sheet) = check_into(kind, today, bytes, bytes.len() + 6);
+        assert_eq!(view(kind, today, bytes, 0).0, if number == 0 { (6, 0, None) } else { (number, place, tag) });
         if number == 0 {
             let mut room = vec![0xAA; bytes.len()];
-            assert_eq!(write(kind, today, &sheet, &mut room), (0, 0, bytes.len() as u64));
+            assert_eq!(write(kind, today, &sheet, &mut room), (CONFORMS, bytes.len() as u64));
             assert_eq!(room, bytes);
         }
         let mut room = vec![0xAA; 600];
@@ -191,13 +200,13 @@ fn calls_agree() {
         assert_eq!(report_number, if number <= 4 { number } else { 0 });
         if report_number == 0 {
             let text = String::from_utf8(room[..length as usize].to_vec()).unwrap();
-            assert!(text.contains(&format!("\nverdict {} {}\n", number, place)));
+            assert!(text.contains(&format!("\nverdict {} {} {}\n", number, place, tag_text(tag))));
         }
 
         // A sheet that is written comes back.
         let mut room = vec![0xAA; 40_000];
-        let (number, _, length) = write(kind, today, bytes, &mut room);
-        if number == 0 {
+        let (verdict, length) = write(kind, today, bytes, &mut room);
+        if verdict == CONFORMS {
             let container = room[..length as usize].to_vec();
             assert_eq!(check_into(kind, today, &container, bytes.len()), sheet_told(bytes));
         } else {
@@ -221,7 +230,7 @@ fn same_in_every_room(kind: u64, today: u64, container: &[u8], rooms: impl Fn(us
 #[test]
 fn rooms_of_made_ones() {
     let mut inputs = Inputs::new(6);
-    for _ in 0..60_000 {
+    for _ in 0..80_000 {
         let record = inputs.record();
         if !matches!(record.call, Call::FascnDecode | Call::FascnEncode) {
             same_in_every_room(record.kind, record.today, &record.bytes, |sheet| {
@@ -251,6 +260,6 @@ fn rooms_of_small_ones() {
 #[test]
 fn small_ones_conform() {
     for kind in all_kinds() {
-        assert_eq!(verdict(kind, EXAMPLE_DAY, &small(kind)), (0, 0), "kind {}", kind);
+        assert_eq!(verdict(kind, EXAMPLE_DAY, &small(kind)), CONFORMS, "kind {}", kind);
     }
 }

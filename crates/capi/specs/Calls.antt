@@ -1,10 +1,13 @@
 -- The six calls as C has them. Each record is the whole contract of one function: the record of the door's call, of the numbers that the function answers
--- and stores. Nothing is left open (`promises`, `SettledForC`).
+-- and stores. A verdict's tag is stored by its number. Nothing is left open (`promises`, `SettledForC`).
 use Prim.Native.Nat.{ℕ}
 use mathlib.Core.Path.{_≡_}
 use mathlib.Core.List.{List}
 use lib.ListN.{length, getD}
 use Rattle.fascn.specs.declared.Numbers.{Numbers}
+use Rattle.verdicts.specs.Verdicts.{tagNumber}
+use Rattle.verdicts.specs.declared.Tag.{Tag}
+use Rattle.verdicts.specs.declared.Tag.the-variants.{NoTag}
 use Rattle.views.specs.Views.{viewed}
 use Rattle.prosianek.specs.Calls.{Checks, Writes, Reports, Decodes, Encodes}
 
@@ -23,22 +26,27 @@ numbersOf l =
       association = getD l 8 0;
     }
 
-pub record CChecks (kind today : ℕ) (c before after : List ℕ) (number place room size : ℕ) : Type 0 where
-  pub answers : Checks kind today c before after (record { verdict = record { number = number; place = place }; room = room; length = size })
+pub record CChecks (kind today : ℕ) (c before after : List ℕ) (number place tag room size : ℕ) : Type 0 where
+  pub there : Tag
+  pub tag-is : tag ≡ tagNumber there
+  pub answers : Checks kind today c before after (record { verdict = record { number = number; place = place; tag = there }; room = room; length = size })
 
-pub record CWrites (kind today : ℕ) (s before after : List ℕ) (number place size : ℕ) : Type 0 where
-  pub answers : Writes kind today s before after (record { number = number; place = place; length = size })
+pub record CWrites (kind today : ℕ) (s before after : List ℕ) (number place tag size : ℕ) : Type 0 where
+  pub there : Tag
+  pub tag-is : tag ≡ tagNumber there
+  pub answers : Writes kind today s before after (record { number = number; place = place; tag = there; length = size })
 
 -- a view in numbers: its part has `size` bytes and starts at `offset` of the container
-pub record CViews (kind today : ℕ) (c : List ℕ) (tag number place offset size : ℕ) : Type 0 where
-  pub number-is : number ≡ viewed kind today c tag .number
-  pub place-is : place ≡ viewed kind today c tag .place
-  pub offset-is : offset ≡ viewed kind today c tag .part .offset
-  pub size-is : size ≡ length (viewed kind today c tag .part .bytes)
+pub record CViews (kind today : ℕ) (c : List ℕ) (element number place tag offset size : ℕ) : Type 0 where
+  pub number-is : number ≡ viewed kind today c element .verdict .number
+  pub place-is : place ≡ viewed kind today c element .verdict .place
+  pub tag-is : tag ≡ tagNumber (viewed kind today c element .verdict .tag)
+  pub offset-is : offset ≡ viewed kind today c element .part .offset
+  pub size-is : size ≡ length (viewed kind today c element .part .bytes)
 
--- no refusal of a report has another place than 0
+-- no refusal of a report has another place than 0, or a tag
 pub record CReports (kind today : ℕ) (c before after : List ℕ) (number size : ℕ) : Type 0 where
-  pub answers : Reports kind today c before after (record { number = number; place = 0; length = size })
+  pub answers : Reports kind today c before after (record { number = number; place = 0; tag = NoTag; length = size })
 
 pub record CDecodes (s : List ℕ) (number : ℕ) (numbers : List ℕ) : Type 0 where
   pub answers : Decodes s (record { number = number; numbers = numbersOf numbers })

@@ -10,14 +10,17 @@ pub extern "C" fn prosianek_check(
     container: &[u8],
     sheet: &mut [u8],
     place: &mut u64,
+    tag: &mut u64,
     room: &mut u64,
     length: &mut u64,
 ) -> u64
-    ensures { λ r. ⌜ CChecks kind today (now (container .entry)) (now (sheet .entry)) (now (sheet .exit)) r (now (place .exit)) (now (room .exit)) (now (length .exit)) ⌝ }
+    ensures { λ r. ⌜ CChecks kind today (now (container .entry)) (now (sheet .entry)) (now (sheet .exit)) r (now (place .exit)) (now (tag .exit)) (now (room .exit)) (now (length .exit)) ⌝ }
 {
     let checked = prosianek::check(kind, today, container, sheet);
     let verdict = checked.verdict;
+    let there = verdict.tag;
     *place = verdict.place;
+    *tag = verdicts::tag_number(there);
     *room = checked.room;
     *length = checked.length;
     verdict.number
@@ -30,12 +33,15 @@ pub extern "C" fn prosianek_write(
     sheet: &[u8],
     container: &mut [u8],
     place: &mut u64,
+    tag: &mut u64,
     length: &mut u64,
 ) -> u64
-    ensures { λ r. ⌜ CWrites kind today (now (sheet .entry)) (now (container .entry)) (now (container .exit)) r (now (place .exit)) (now (length .exit)) ⌝ }
+    ensures { λ r. ⌜ CWrites kind today (now (sheet .entry)) (now (container .entry)) (now (container .exit)) r (now (place .exit)) (now (tag .exit)) (now (length .exit)) ⌝ }
 {
     let done = prosianek::write(kind, today, sheet, container);
+    let there = done.tag;
     *place = done.place;
+    *tag = verdicts::tag_number(there);
     *length = done.length;
     done.number
 }
@@ -46,21 +52,25 @@ pub extern "C" fn prosianek_view(
     kind: u64,
     today: u64,
     container: &[u8],
-    tag: u64,
+    element: u64,
     place: &mut u64,
+    tag: &mut u64,
     offset: &mut u64,
     length: &mut u64,
 ) -> u64
-    ensures { λ r. ⌜ CViews kind today (now (container .entry)) tag r (now (place .exit)) (now (offset .exit)) (now (length .exit)) ⌝ }
+    ensures { λ r. ⌜ CViews kind today (now (container .entry)) element r (now (place .exit)) (now (tag .exit)) (now (offset .exit)) (now (length .exit)) ⌝ }
 {
-    let part = views::locate(kind, today, container, tag);
-    *place = part.place;
+    let part = views::locate(kind, today, container, element);
+    let verdict = part.verdict;
+    let there = verdict.tag;
+    *place = verdict.place;
+    *tag = verdicts::tag_number(there);
     *offset = part.from as u64;
     *length = (part.to - part.from) as u64;
-    part.number
+    verdict.number
 }
 
-// No refusal of a report has another place than 0.
+// No refusal of a report has another place than 0, or a tag.
 #[no_mangle]
 pub extern "C" fn prosianek_report(
     kind: u64,

@@ -8,21 +8,29 @@ use lib.ListN.{length, length-append}
 use borrow.Author.Tests.{leb-true}
 use Rattle.laws.specs.Tests.{allBelow}
 use Rattle.laws.proofs.Cases.{along}
-use Rattle.texts.proofs.Bounds.{decimal-length, fixed-length}
-use Rattle.card.specs.Card.{names, kindName, cardPart}
+use Rattle.texts.proofs.Bounds.{decimal-length, fixed-length, tag-most}
+use Rattle.verdicts.specs.declared.Tag.{Tag}
+use Rattle.verdicts.specs.declared.Tag.the-variants.{NoTag, Of}
+use Rattle.verdicts.specs.declared.Verdict.{Verdict}
+use Rattle.card.specs.Card.{names, kindName, tagText, cardPart}
 
 kind-length : (kind : ℕ) → length (kindName kind) ≤ 9
 unfolding allBelow
 kind-length kind = leb-true _ _ (along ([] ∷ names) [] (λ k name. leb (length name) 9) refl (λ k. refl) kind)
 
-pub card-length : (kind size today verdict place : ℕ) → size < 10 ^ 5 → verdict < 10 ^ 2 → place < 10 ^ 5 → length (cardPart kind size today verdict place) ≤ 66
+tag-length : (tag : Tag) → length (tagText tag) ≤ 4
+tag-length NoTag = omega arith
+tag-length (Of t) = tag-most t
+
+pub card-length : (kind size today : ℕ) (v : Verdict) → size < 10 ^ 5 → v .number < 10 ^ 2 → v .place < 10 ^ 5 → length (cardPart kind size today v) ≤ 71
 unfolding cardPart
-card-length kind size today verdict place h g k =
+card-length kind size today v h g k =
     simp (length-append, fixed-length)
     (omega (
       arith,
       kind-length kind,
       decimal-length 5 size (omega arith) h,
-      decimal-length 2 verdict (omega arith) g,
-      decimal-length 5 place (omega arith) k,
+      decimal-length 2 (v .number) (omega arith) g,
+      decimal-length 5 (v .place) (omega arith) k,
+      tag-length (v .tag),
     ))

@@ -9,11 +9,13 @@ use lib.ListN.{length}
 use borrow.Author.Tests.{eqb-true, eqb-false, not-true}
 use Rattle.laws.specs.Tests.{allBelow, each, same}
 use Rattle.laws.proofs.Cases.{and-true, at-each}
-use Rattle.texts.specs.Text.{ascii, numeral}
+use Rattle.texts.specs.Text.{ascii}
 use Rattle.texts.proofs.Reading.{Reads, and, given, so, behind, Without, ended-reads}
 use Rattle.texts.proofs.Numbers.{number-reads, line-reads}
+use Rattle.verdicts.specs.Verdicts.{verdictOf}
+use Rattle.verdicts.specs.declared.Outcome.the-variants.{Fine}
 use Rattle.kinds.specs.Tables.{IsKind}
-use Rattle.card.specs.Card.{names, kindName, cardPart}
+use Rattle.card.specs.Card.{names, kindName, verdictLine, cardPart}
 
 -- the place of a name
 nth : List ℕ → List (List ℕ) → ℕ
@@ -41,7 +43,7 @@ pub kind-reads : (k l : ℕ) → IsKind k → IsKind l → Reads (kindName k ++ 
 kind-reads k l i j =
     so (λ e. sym (named k i .0) ∙ ap kindOf e ∙ named l j .0) (ended-reads 10 (kindName k) (kindName l) (named k i .1) (named l j .1))
 
-pub card-reads : (k l size size′ t u : ℕ) → IsKind k → IsKind l → t < 10 ^ 8 → u < 10 ^ 8 → Reads (cardPart k size t 0 0) (cardPart l size′ u 0 0) ((k ≡ l) × (t ≡ u))
+pub card-reads : (k l size size′ t u : ℕ) → IsKind k → IsKind l → t < 10 ^ 8 → u < 10 ^ 8 → Reads (cardPart k size t (verdictOf Fine)) (cardPart l size′ u (verdictOf Fine)) ((k ≡ l) × (t ≡ u))
 unfolding cardPart
 card-reads k l size size′ t u i j g h =
     so (λ r. (r .0 .0 .0, r .0 .1))
@@ -49,4 +51,4 @@ card-reads k l size size′ t u i j g h =
     (and
     (and (behind (ascii "CARD 4\nkind ") (kind-reads k l i j)) (behind (ascii "bytes ") (number-reads 10 (omega arith) size size′)))
     (behind (ascii "today ") (line-reads 8 t u g h)))
-    (given (ascii "verdict " ++ numeral 0 32 ++ numeral 0 10)))
+    (given (verdictLine (verdictOf Fine))))

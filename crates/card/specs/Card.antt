@@ -1,9 +1,12 @@
 -- 01: "CARD (kind, bytes in the container, today, verdict number and place)", "after its count of lines". "Numbers are decimal without leading zeros,
--- except today and expires (eight digits) .. Each line ends in 0A."
+-- except today and expires (eight digits) .. Each line ends in 0A." 2026-02: "the report line becomes `verdict 17 2 30`".
 use Prim.Native.Nat.{ℕ}
 use mathlib.Core.List.{List, [], _∷_, _++_}
 use lib.ListN.{getD}
-use Rattle.texts.specs.Text.{ascii, numeral, digitsLine}
+use Rattle.texts.specs.Text.{ascii, numeral, digitsLine, hexTag}
+use Rattle.verdicts.specs.declared.Tag.{Tag}
+use Rattle.verdicts.specs.declared.Tag.the-variants.{NoTag, Of}
+use Rattle.verdicts.specs.declared.Verdict.{Verdict}
 
 -- "1 CCC, 2 CHUID, 3 DISCOVERY, 4 PRINTED, 5 SECURITY, 6 FINGERS, 7 FACE"; 2026-04: "Kind numbers 8 to 11, printed PIVAUTH, DIGSIG, KEYMGMT, CARDAUTH"
 abbrev pub names : List (List ℕ)
@@ -15,8 +18,16 @@ names =
 abbrev pub kindName : ℕ → List ℕ
 kindName kind = getD ([] ∷ names) kind []
 
+-- "`--`" for none; "For number 13 the tag is a byte from the card, two hex digits", and a tag of two bytes has four
+abbrev pub tagText : Tag → List ℕ
+tagText NoTag = ascii "--"
+tagText (Of t) = hexTag t
+
+-- "`verdict 17 2 30`"
+abbrev pub verdictLine : Verdict → List ℕ
+verdictLine v = ascii "verdict " ++ numeral (v .number) 32 ++ numeral (v .place) 32 ++ tagText (v .tag) ++ 10 ∷ []
+
 -- four lines
-unfoldable pub cardPart : ℕ → ℕ → ℕ → ℕ → ℕ → List ℕ
-cardPart kind size today verdict place =
-    ascii "CARD 4\nkind " ++ (kindName kind ++ 10 ∷ []) ++ (ascii "bytes " ++ numeral size 10) ++ (ascii "today " ++ digitsLine 8 today)
-    ++ (ascii "verdict " ++ numeral verdict 32 ++ numeral place 10)
+unfoldable pub cardPart : ℕ → ℕ → ℕ → Verdict → List ℕ
+cardPart kind size today v =
+    ascii "CARD 4\nkind " ++ (kindName kind ++ 10 ∷ []) ++ (ascii "bytes " ++ numeral size 10) ++ (ascii "today " ++ digitsLine 8 today) ++ verdictLine v

@@ -29,10 +29,10 @@ prepended : {A : Type 0} (o : Option A) (p : Parsed A) (vs : List (Option A)) �
 prepended o (values ws) vs e = (ws, refl, cc)
 prepended o (fault f) vs e = absurd (no-values e)
 
-followed : (at start : ℕ) (x : Element) (k : ℕ → Parsed Part) (ps : List (Option Part)) → follow at start x k ≡ values ps
-    → (w : ℕ) × (v : List ℕ) × (x ≡ whole w v) × (prepend (some (record { offset = start + w; bytes = v })) (k (w + length v)) ≡ values ps)
-followed at start (whole w v) k ps e = (w, v, refl, e)
-followed at start (broken f) k ps e = absurd (no-values e)
+followed : (at t : ℕ) (x : Element) (k : ℕ → Parsed Part) (ps : List (Option Part)) → follow at t x k ≡ values ps
+    → (w : ℕ) × (v : List ℕ) × (x ≡ whole w v) × (prepend (some (record { offset = at + long t + w; bytes = v })) (k (w + length v)) ≡ values ps)
+followed at t (whole w v) k ps e = (w, v, refl, e)
+followed at t (broken f) k ps e = absurd (no-values e)
 
 alone-none : (p : Parsed Part) → alone (prepend none p) ≡ prepend none (alone p)
 alone-none (values ps) = refl
@@ -69,11 +69,11 @@ module _ (today : ℕ) (all : Table) where
 
   hit : (r : Entry) (rs : Table) (at x : ℕ) (s : List ℕ) → Bytes (x ∷ s) → (ps : List (Option Part)) → tagHere all x s ≡ r .tag
       → ((n : ℕ) (qs : List (Option Part)) → parse today all rs (at + long (r .tag) + n) (from r n (x ∷ s)) ≡ values qs → Of rs (from r n (x ∷ s)) qs)
-      → follow at (at + long (r .tag)) (element (r .lengths) (r .rule) today (drop (long (r .tag)) (x ∷ s))) (λ n. parse today all rs (at + long (r .tag) + n) (from r n (x ∷ s))) ≡ values ps
+      → follow at (r .tag) (element (r .lengths) (r .rule) today (drop (long (r .tag)) (x ∷ s))) (λ n. parse today all rs (at + long (r .tag) + n) (from r n (x ∷ s))) ≡ values ps
       → Of (r ∷ rs) (x ∷ s) ps
   hit r rs at x s b ps q k e =
       let body = drop (long (r .tag)) (x ∷ s) in
-      let (w, v, is, f) = followed at (at + long (r .tag)) (element (r .lengths) (r .rule) today body) (λ n. parse today all rs (at + long (r .tag) + n) (from r n (x ∷ s))) ps e in
+      let (w, v, is, f) = followed at (r .tag) (element (r .lengths) (r .rule) today body) (λ n. parse today all rs (at + long (r .tag) + n) (from r n (x ∷ s))) ps e in
       let n = w + length v in
       let bb : Bytes body = below-drop 256 (long (r .tag)) (x ∷ s) b in
       let g = element-is (r .lengths) (r .rule) today body bb w v is in

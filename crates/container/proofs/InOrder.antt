@@ -17,13 +17,15 @@ use Rattle.laws.proofs.Cases.{which}
 use Rattle.lengths.specs.Length.{lengthBytes}
 use Rattle.kinds.specs.Tables.{Entry, Table}
 use Rattle.verdicts.specs.Verdicts.{found}
+use Rattle.verdicts.specs.declared.Tag.{Tag}
+use Rattle.verdicts.specs.declared.Tag.the-variants.{NoTag, Of}
 use Rattle.verdicts.specs.declared.Finding.{Finding}
 use Rattle.verdicts.specs.declared.Fault.{Fault}
 use Rattle.verdicts.specs.declared.Fault.the-variants.{UnknownTag, TagOrder, MissingRow}
 use Rattle.container.specs.Container.{Values, tagBytes, long, has, tagHere, encode, Allowed}
 use Rattle.container.specs.Reading.{Parsed, values, fault, Part, prepend, Element, whole, broken, element, misplaced, follow, parse}
-use Rattle.container.specs.InOrder.{Owed, AtFault, not-in-table, not-to-come, passed-over, in-row, Wrong, First}
-use Rattle.container.proofs.Tags.{tag-is}
+use Rattle.container.specs.InOrder.{Owed, AtFault, not-in-table, not-to-come, passed-over, in-row, Wrong, at-end, at-element, First}
+use Rattle.container.proofs.Tags.{Tags, tag-is, tag-read, tag-stands}
 use Rattle.container.proofs.One.{element-is, good-fits}
 use Rattle.container.proofs.Exact.{bytes-front, bytes-back}
 use Rattle.container.proofs.Faults.{faulty-exact}
@@ -72,15 +74,17 @@ pub finding-is : {A : Type 0} {f g : Finding} → _≡_ {A = Parsed A} (fault f)
 finding-is e = cc
 
 -- the fault of what stands at once
-at-once : (today : ℕ) (all rest : Table) (at : ℕ) (s : List ℕ) {f : Finding} {g : Fault} → f ≡ found g at → Wrong today all rest s g → First today all rest at s f
-at-once today all rest at s {f} {g} e w =
+at-once : (today : ℕ) (all rest : Table) (at : ℕ) (s : List ℕ) {f : Finding} {g : Fault} {tag : Tag} → f ≡ found g at tag → Wrong today all rest s g tag
+    → First today all rest at s f
+at-once today all rest at s {f} {g} {tag} e w =
     let z : f .place ≡ at = ap (λ (x : Finding). x .place) e in
     let q : f .fault ≡ g = ap (λ (x : Finding). x .fault) e in
-    record { rows = []; later = rest; vs = []; split = refl; allowed = tt; last = tt; place-is = z ∙ omega arith; written = refl; wrong = rw q w }
+    let u : f .tag ≡ tag = ap (λ (x : Finding). x .tag) e in
+    record { rows = []; later = rest; vs = []; split = refl; allowed = tt; last = tt; place-is = z ∙ omega arith; written = refl; wrong = rw (q, u) w }
 
 -- an optional row without an element
-skip : (today : ℕ) (all : Table) (r : Entry) (rs : Table) (at : ℕ) (s : List ℕ) (f : Finding) → r .optional ≡ true → (Wrong today all rs s (f .fault) → Wrong today all (r ∷ rs) s (f .fault))
-    → First today all rs at s f → First today all (r ∷ rs) at s f
+skip : (today : ℕ) (all : Table) (r : Entry) (rs : Table) (at : ℕ) (s : List ℕ) (f : Finding) → r .optional ≡ true
+    → (Wrong today all rs s (f .fault) (f .tag) → Wrong today all (r ∷ rs) s (f .fault) (f .tag)) → First today all rs at s f → First today all (r ∷ rs) at s f
 skip today all r rs at s f o k b = go (b .rows) (b .vs) refl refl (b .allowed)
   where
     go : (rows : Table) (vs : Values) → b .rows ≡ rows → b .vs ≡ vs → Allowed today rows vs → First today all (r ∷ rs) at s f
@@ -88,7 +92,7 @@ skip today all r rs at s f o k b = go (b .rows) (b .vs) refl refl (b .allowed)
         let z : f .place ≡ at + length (encode [] []) = b .place-is ∙ rw m in
         let y : f .place ≡ at = omega (arith, z) in
         let e : b .later ≡ rs = sym (b .split ∙ rw m) in
-        at-once today all (r ∷ rs) at s (ap (found (f .fault)) y) (k (rw (m, e) at (b .wrong)))
+        at-once today all (r ∷ rs) at s (ap (λ (n : ℕ). found (f .fault) n (f .tag)) y) (k (rw (m, e) at (b .wrong)))
     go [] (v ∷ vs) m n a = absurd a
     go (y ∷ ys) [] m n a = absurd a
     go (y ∷ ys) (v ∷ vs) m n a =
@@ -105,11 +109,11 @@ skip today all r rs at s f o k b = go (b .rows) (b .vs) refl refl (b .allowed)
         }
 
 -- the end of the bytes
-at-end : (today : ℕ) (all : Table) (at : ℕ) (rest : Table) {f : Finding} → parse today all rest at [] ≡ fault f → Owed rest × (f ≡ found MissingRow at)
-at-end today all at [] e = let z : _≡_ {A = ℕ} 0 1 = cc in absurd (omega arith)
-at-end today all at (r ∷ rs) {f} e =
+owes : (today : ℕ) (all : Table) (at : ℕ) (rest : Table) {f : Finding} → parse today all rest at [] ≡ fault f → Owed rest × (f ≡ found MissingRow at NoTag)
+owes today all at [] e = let z : _≡_ {A = ℕ} 0 1 = cc in absurd (omega arith)
+owes today all at (r ∷ rs) {f} e =
     elim (which (r .optional)) [
-      | inl o ↦ let h = at-end today all at rs (fault-of none (parse today all rs at []) (rw o at e)) in (inr (h .0), h .1)
+      | inl o ↦ let h = owes today all at rs (fault-of none (parse today all rs at []) (rw o at e)) in (inr (h .0), h .1)
       | inr o ↦ (inl o, finding-is (rw o at e))
     ]
 
@@ -150,34 +154,46 @@ module _ (today : ℕ) (all : Table) where
       }
 
   own : (r : Entry) (rs : Table) (x : ℕ) (s : List ℕ) → Bytes (x ∷ s) → tagHere all x s ≡ r .tag → {f : Fault}
-      → element (r .lengths) (r .rule) today (drop (long (r .tag)) (x ∷ s)) ≡ broken f → Wrong today all (r ∷ rs) (x ∷ s) f
+      → element (r .lengths) (r .rule) today (drop (long (r .tag)) (x ∷ s)) ≡ broken f
+      → AtFault today all (r ∷ rs) (tagHere all x s) (drop (long (tagHere all x s)) (x ∷ s)) f
   own r rs x s b q {f} e =
       in-row [] r rs refl q (λ h. h) (rw q (faulty-exact (r .lengths) (r .rule) today (drop (long (r .tag)) (x ∷ s)) (below-drop 256 (long (r .tag)) (x ∷ s) b) f .0 e))
 
-  follow-fault : (at start : ℕ) (x : Element) (k : ℕ → Parsed Part) {f : Finding} → follow at start x k ≡ fault f
-      → {P : Type 0} → ((g : Fault) → x ≡ broken g → f ≡ found g at → P) → ((w : ℕ) (v : List ℕ) → x ≡ whole w v → k (w + length v) ≡ fault f → P) → P
-  follow-fault at start (whole w v) k e here on = on w v refl (fault-of (some (record { offset = start + w; bytes = v })) (k (w + length v)) e)
-  follow-fault at start (broken g) k e here on = here g refl (finding-is e)
+  follow-fault : (at t : ℕ) (x : Element) (k : ℕ → Parsed Part) {f : Finding} → follow at t x k ≡ fault f
+      → {P : Type 0} → ((g : Fault) → x ≡ broken g → f ≡ found g at (Of t) → P) → ((w : ℕ) (v : List ℕ) → x ≡ whole w v → k (w + length v) ≡ fault f → P) → P
+  follow-fault at t (whole w v) k e here on = on w v refl (fault-of (some (record { offset = at + long t + w; bytes = v })) (k (w + length v)) e)
+  follow-fault at t (broken g) k e here on = here g refl (finding-is e)
 
   ended : (rest : Table) (at : ℕ) (f : Finding) → parse today all rest at [] ≡ fault f → First today all rest at [] f
-  ended rest at f e = let h = at-end today all at rest e in at-once today all rest at [] (h .1) (h .0, refl)
+  ended rest at f e = let h = owes today all at rest e in at-once today all rest at [] (h .1) (at-end refl (h .0) refl refl)
 
-  -- the fault that is read is the first one
+-- the fault that is read is the first one, and its tag is the one that stands there
+module _ (today : ℕ) (all : Table) (p : Tags all all) where
+  here : (rest : Table) (at x : ℕ) (s : List ℕ) → Bytes (x ∷ s) → {f : Finding} {g : Fault} → f ≡ found g at (Of (tagHere all x s))
+      → AtFault today all rest (tagHere all x s) (drop (long (tagHere all x s)) (x ∷ s)) g → First today all rest at (x ∷ s) f
+  here rest at x s b e w = at-once today all rest at (x ∷ s) e (at-element (tagHere all x s) _ (tag-stands all p x s (b .0)) w refl)
+
+  passing-wrong : (r : Entry) (rs : Table) (x : ℕ) (s : List ℕ) → Bytes (x ∷ s) → eqb (tagHere all x s) (r .tag) ≡ false → r .optional ≡ true → {f : Fault} {tag : Tag}
+      → Wrong today all rs (x ∷ s) f tag → Wrong today all (r ∷ rs) (x ∷ s) f tag
+  passing-wrong r rs x s b q o (at-end e w m z) = let y : _≡_ {A = ℕ} 0 1 = cc in absurd (omega arith)
+  passing-wrong r rs x s b q o (at-element t y i w z) =
+      at-element t y i (passing today all t y r rs (rw (tag-read all p x s (b .0) t y i .0) q) o w) z
+
   pub first : (rest : Table) (at : ℕ) (s : List ℕ) → Bytes s → (f : Finding) → parse today all rest at s ≡ fault f → First today all rest at s f
-  first [] at [] b f e = ended [] at f e
-  first [] at (x ∷ s) b f e = at-once today all [] at (x ∷ s) (finding-is e) (gone-wrong today all (tagHere all x s) _ [] refl)
-  first (r ∷ rs) at [] b f e = ended (r ∷ rs) at f e
+  first [] at [] b f e = ended today all [] at f e
+  first [] at (x ∷ s) b f e = here [] at x s b (finding-is e) (gone-wrong today all (tagHere all x s) _ [] refl)
+  first (r ∷ rs) at [] b f e = ended today all (r ∷ rs) at f e
   first (r ∷ rs) at (x ∷ s) b f e =
       elim (which (eqb (tagHere all x s) (r .tag))) [
         | inl q ↦
-            follow-fault at (at + long (r .tag)) (element (r .lengths) (r .rule) today (drop (long (r .tag)) (x ∷ s))) (λ n. parse today all rs (at + long (r .tag) + n) (drop (long (r .tag) + n) (x ∷ s))) (rw q at e)
-            (λ g w z. at-once today all (r ∷ rs) at (x ∷ s) z (own r rs x s b (eqb-true _ _ q) w))
-            (λ w v z m. after-element r rs at x s b (eqb-true _ _ q) w v z f (first rs (at + long (r .tag) + (w + length v)) (drop (long (r .tag) + (w + length v)) (x ∷ s)) (below-drop 256 (long (r .tag) + (w + length v)) (x ∷ s) b) f m))
+            follow-fault today all at (r .tag) (element (r .lengths) (r .rule) today (drop (long (r .tag)) (x ∷ s))) (λ n. parse today all rs (at + long (r .tag) + n) (drop (long (r .tag) + n) (x ∷ s))) (rw q at e)
+            (λ g w z. here (r ∷ rs) at x s b (rw (eqb-true (tagHere all x s) (r .tag) q) z) (own today all r rs x s b (eqb-true _ _ q) w))
+            (λ w v z m. after-element today all r rs at x s b (eqb-true _ _ q) w v z f (first rs (at + long (r .tag) + (w + length v)) (drop (long (r .tag) + (w + length v)) (x ∷ s)) (below-drop 256 (long (r .tag) + (w + length v)) (x ∷ s) b) f m))
         | inr q ↦
             elim (which (r .optional)) [
-              | inl o ↦ skip today all r rs at (x ∷ s) f o (passing today all (tagHere all x s) _ r rs q o) (first rs at (x ∷ s) b f (fault-of none (parse today all rs at (x ∷ s)) (rw (q, o) at e)))
+              | inl o ↦ skip today all r rs at (x ∷ s) f o (passing-wrong r rs x s b q o) (first rs at (x ∷ s) b f (fault-of none (parse today all rs at (x ∷ s)) (rw (q, o) at e)))
               | inr o ↦
-                  let z : fault (found (misplaced all rs (tagHere all x s)) at) ≡ fault f = rw (q, o) at e in
-                  at-once today all (r ∷ rs) at (x ∷ s) (finding-is z) (missing today all (tagHere all x s) _ r rs q o)
+                  let z : fault (found (misplaced all rs (tagHere all x s)) at (Of (tagHere all x s))) ≡ fault f = rw (q, o) at e in
+                  here (r ∷ rs) at x s b (finding-is z) (missing today all (tagHere all x s) _ r rs q o)
             ]
       ]

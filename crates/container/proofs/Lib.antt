@@ -10,4 +10,5 @@ pub mod Ways
 pub mod Faults
 pub mod InOrder
 pub mod Named
+pub mod Tagged
 pub mod Lying

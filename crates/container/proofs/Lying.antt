@@ -20,6 +20,7 @@ use Rattle.lengths.specs.Length.{lengthBytes, readLength, Spelt}
 use Rattle.lengths.proofs.Writing.{some-bytes}
 use Rattle.kinds.specs.Tables.{Entry, Table, table, IsKind}
 use Rattle.verdicts.specs.Verdicts.{found}
+use Rattle.verdicts.specs.declared.Tag.the-variants.{Of}
 use Rattle.verdicts.specs.declared.Finding.{Finding}
 use Rattle.verdicts.specs.declared.Outcome.the-variants.{Fine, Broken}
 use Rattle.container.specs.Container.{Values, tagBytes, long, tagHere, outerTag, Allowed, largest}
@@ -51,9 +52,9 @@ module _ (today : ℕ) (all : Table) (P : ℕ → Table → List ℕ → Parsed 
 
     followed : (at : ℕ) (r : Entry) (rs : Table) (s : List ℕ) (x : Element) (k : ℕ → Parsed Part)
         → ((w : ℕ) (v : List ℕ) → x ≡ whole w v → P at (r ∷ rs) s (prepend (some (record { offset = at + long (r .tag) + w; bytes = v })) (k (w + length v))))
-        → P at (r ∷ rs) s (follow at (at + long (r .tag)) x k)
+        → P at (r ∷ rs) s (follow at (r .tag) x k)
     followed at r rs s (whole w v) k h = h w v refl
-    followed at r rs s (broken f) k h = stops at (r ∷ rs) s (found f at)
+    followed at r rs s (broken f) k h = stops at (r ∷ rs) s (found f at (Of (r .tag)))
 
     pub parse-by : (rest : Table) (at : ℕ) (s : List ℕ) → Bytes s → P at rest s (parse today all rest at s)
     parse-by [] at [] b = ended at

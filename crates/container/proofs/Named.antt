@@ -17,14 +17,16 @@ use Rattle.dates.specs.Date.{IsDate, isDate}
 use Rattle.dates.proofs.Dates.{date-exact}
 use Rattle.kinds.specs.Tables.{Entry, Table, table, IsKind, isKind}
 use Rattle.verdicts.specs.Verdicts.{found}
+use Rattle.verdicts.specs.declared.Tag.{Tag}
+use Rattle.verdicts.specs.declared.Tag.the-variants.{NoTag, Of}
 use Rattle.verdicts.specs.declared.Finding.{Finding}
 use Rattle.verdicts.specs.declared.Fault.{Fault}
 use Rattle.verdicts.specs.declared.Fault.the-variants.{UnknownTag, TagOrder, MissingRow}
 use Rattle.container.specs.Container.{Values, tagBytes, long, has, tagHere, encode, outerTag, Allowed, largest}
 use Rattle.container.specs.Reading.{fault, prepend, broken, element, parse, outer, located, parsed}
-use Rattle.container.specs.InOrder.{Owed, not-in-table, not-to-come, passed-over, in-row, Wrong, LastThere, First, Named, no-kind, no-date, too-large, outer-tag, outer-length, outer-end, in-element}
+use Rattle.container.specs.InOrder.{Owed, AtFault, not-in-table, not-to-come, passed-over, in-row, Wrong, at-end, at-element, LastThere, First, Named, no-kind, no-date, too-large, outer-tag, outer-length, outer-end, in-element}
 use Rattle.container.proofs.Rows.{Distinct, gone}
-use Rattle.container.proofs.Tags.{Tags, tags, distinct, begins}
+use Rattle.container.proofs.Tags.{Tags, tags, distinct, begins, no-tag, tag-read}
 use Rattle.container.proofs.One.{fits-good}
 use Rattle.container.proofs.Exact.{Apart, skips, partAt, takes, size, bytes-front, bytes-back}
 use Rattle.container.proofs.Faults.{length-read, none-read, faulty-exact}
@@ -35,7 +37,7 @@ later : (r : Entry) (rs : Table) → r .optional ≡ true → Owed (r ∷ rs) �
 later r rs o (inl n) = absurd (true≢false (sym o ∙ n))
 later r rs o (inr h) = h
 
-has-mid : (before : Table) (r : Entry) (after : Table) → has (r .tag) (before ++ (r ∷ after)) ≡ true
+pub has-mid : (before : Table) (r : Entry) (after : Table) → has (r .tag) (before ++ (r ∷ after)) ≡ true
 has-mid [] r after = rw (eq-eqb (r .tag) (r .tag) refl)
 has-mid (x ∷ xs) r after = elim (which (eqb (r .tag) (x .tag))) [
   | inl q ↦ rw q
@@ -44,7 +46,7 @@ has-mid (x ∷ xs) r after = elim (which (eqb (r .tag) (x .tag))) [
 
 module _ (today : ℕ) (all : Table) where
   -- at the end of the bytes
-  owing : (rest : Table) (at : ℕ) → Owed rest → parse today all rest at [] ≡ fault (found MissingRow at)
+  owing : (rest : Table) (at : ℕ) → Owed rest → parse today all rest at [] ≡ fault (found MissingRow at NoTag)
   owing [] at h = absurd h
   owing (r ∷ rs) at h = elim (which (r .optional)) [
     | inl o ↦ rw o (ap (prepend none) (owing rs at (later r rs o h)))
@@ -64,9 +66,10 @@ module _ (today : ℕ) (all : Table) where
     owed x xs o (inl (w, e)) = e
     owed x xs o (inr (n, e)) = absurd (n (inl o))
 
-    to-row : (before : Table) → Distinct (before ++ (r ∷ after)) → Stops before → parse today all (before ++ (r ∷ after)) at (b ∷ s) ≡ fault (found f at)
+    to-row : (before : Table) → Distinct (before ++ (r ∷ after)) → Stops before
+        → parse today all (before ++ (r ∷ after)) at (b ∷ s) ≡ fault (found f at (Of (tagHere all b s)))
     to-row [] d (inl (w, e)) = absurd w
-    to-row [] d (inr (n, e)) = rw (eq-eqb _ _ z, e)
+    to-row [] d (inr (n, e)) = rw (eq-eqb _ _ z, e, z)
     to-row (x ∷ xs) d c =
         let h : has (tagHere all b s) (xs ++ (r ∷ after)) ≡ true = rw z (has-mid xs r after) in
         elim (which (eqb (tagHere all b s) (x .tag))) [
@@ -80,18 +83,26 @@ module _ (today : ℕ) (all : Table) where
 
   module _ (f : Fault) where
     none-to-come : (rest : Table) (at b : ℕ) (s : List ℕ) → has (tagHere all b s) rest ≡ false → f ≡ cond (has (tagHere all b s) all) TagOrder UnknownTag
-        → parse today all rest at (b ∷ s) ≡ fault (found f at)
-    none-to-come rest at b s h e = gone today all at b s rest h ∙ ap (λ (g : Fault). fault (found g at)) (sym e)
+        → parse today all rest at (b ∷ s) ≡ fault (found f at (Of (tagHere all b s)))
+    none-to-come rest at b s h e = gone today all at b s rest h ∙ ap (λ (g : Fault). fault (found g at (Of (tagHere all b s)))) (sym e)
 
-    here : (rest : Table) (at : ℕ) (s : List ℕ) → Bytes s → Distinct rest → ((t : ℕ) → has t all ≡ false → has t rest ≡ false) → Wrong today all rest s f → parse today all rest at s ≡ fault (found f at)
-    here rest at [] u d k w = owing rest at (w .0) ∙ ap (λ (g : Fault). fault (found g at)) (sym (w .1))
-    here rest at (b ∷ s) u d k (not-in-table h e) = none-to-come rest at b s (k _ h) (rw h e)
-    here rest at (b ∷ s) u d k (not-to-come h g e) = none-to-come rest at b s g (rw h e)
-    here rest at (b ∷ s) u d k (passed-over before r after q z w e) =
+    faulted : (rest : Table) (at b : ℕ) (s : List ℕ) → Bytes (b ∷ s) → Distinct rest → ((t : ℕ) → has t all ≡ false → has t rest ≡ false)
+        → AtFault today all rest (tagHere all b s) (drop (long (tagHere all b s)) (b ∷ s)) f → parse today all rest at (b ∷ s) ≡ fault (found f at (Of (tagHere all b s)))
+    faulted rest at b s u d k (not-in-table h e) = none-to-come rest at b s (k _ h) (rw h e)
+    faulted rest at b s u d k (not-to-come h g e) = none-to-come rest at b s g (rw h e)
+    faulted rest at b s u d k (passed-over before r after q z w e) =
         rw q (to-row f at b s r after z before (rw q at d) (inl (w, e)))
-    here rest at (b ∷ s) u d k (in-row before r after q z n w) =
+    faulted rest at b s u d k (in-row before r after q z n w) =
         let g = faulty-exact (r .lengths) (r .rule) today (drop (long (r .tag)) (b ∷ s)) (below-drop 256 (long (r .tag)) (b ∷ s) u) f .1 (rw z at w) in
         rw q (to-row f at b s r after z before (rw q at d) (inr (n, g)))
+
+    here : (p : Tags all all) (rest : Table) (at : ℕ) (s : List ℕ) → Bytes s → Distinct rest → ((t : ℕ) → has t all ≡ false → has t rest ≡ false)
+        → {tag : Tag} → Wrong today all rest s f tag → parse today all rest at s ≡ fault (found f at tag)
+    here p rest at s u d k (at-end e w m z) = rw (e, m, z) (owing rest at w)
+    here p rest at [] u d k (at-element t r i w z) = absurd (no-tag all t r p i)
+    here p rest at (b ∷ s) u d k (at-element t r i w z) =
+        let x = tag-read all p b s (u .0) t r i in
+        rw (z, x .0) (faulted rest at b s u d k (rw (x .1, x .0) at w))
 
     -- elements of other rows begin with another tag
     other : (u : ℕ) (rows later : Table) (o : Option (List ℕ)) (vs : Values) (t : List ℕ) → Tags all rows → has u (rows ++ later) ≡ false → Allowed today rows (o ∷ vs) → LastThere (o ∷ vs)
@@ -112,19 +123,19 @@ module _ (today : ℕ) (all : Table) where
               rw (append-assoc (tagBytes (r .tag)) x t, g .bytes, g .tag) (ne-eqb (r .tag) u (λ e. eqb-false _ _ q (sym e)))
         ]
 
-    back : (rows later : Table) (vs : Values) (at : ℕ) (t : List ℕ) → Tags all rows → Distinct (rows ++ later) → ((t : ℕ) → has t all ≡ false → has t later ≡ false)
-        → Allowed today rows vs → LastThere vs → Bytes (encode rows vs ++ t) → length (encode rows vs) < 65536 → Wrong today all later t f
-        → parse today all (rows ++ later) at (encode rows vs ++ t) ≡ fault (found f (at + length (encode rows vs)))
-    back [] later [] at t p d k a l b h w =
+    back : (all-tags : Tags all all) (rows later : Table) (vs : Values) (at : ℕ) (t : List ℕ) {tag : Tag} → Tags all rows → Distinct (rows ++ later) → ((t : ℕ) → has t all ≡ false → has t later ≡ false)
+        → Allowed today rows vs → LastThere vs → Bytes (encode rows vs ++ t) → length (encode rows vs) < 65536 → Wrong today all later t f tag
+        → parse today all (rows ++ later) at (encode rows vs ++ t) ≡ fault (found f (at + length (encode rows vs)) tag)
+    back all-tags [] later [] at t p d k a l b h w =
         let z : at + 0 ≡ at = omega arith in
-        rw z (here later at t b d k w)
-    back [] later (o ∷ vs) at t p d k a l b h w = absurd a
-    back (r ∷ rs) later [] at t p d k a l b h w = absurd a
-    back (r ∷ rs) later (none ∷ []) at t p d k a l b h w = absurd l
-    back (r ∷ rs) later (none ∷ o ∷ vs) at t p d k a l b h w =
+        rw z (here all-tags later at t b d k w)
+    back all-tags [] later (o ∷ vs) at t p d k a l b h w = absurd a
+    back all-tags (r ∷ rs) later [] at t p d k a l b h w = absurd a
+    back all-tags (r ∷ rs) later (none ∷ []) at t p d k a l b h w = absurd l
+    back all-tags (r ∷ rs) later (none ∷ o ∷ vs) at t p d k a l b h w =
         skips today all r (rs ++ later) at (encode rs (o ∷ vs) ++ t) (a .0) (other (r .tag) rs later o vs t (p .1) (d .0) (a .1) l)
-        ∙ ap (prepend none) (back rs later (o ∷ vs) at t (p .1) (d .1) k (a .1) l b h w)
-    back (r ∷ rs) later (some v ∷ vs) at t p d k a l b h w =
+        ∙ ap (prepend none) (back all-tags rs later (o ∷ vs) at t (p .1) (d .1) k (a .1) l b h w)
+    back all-tags (r ∷ rs) later (some v ∷ vs) at t p d k a l b h w =
         let rest = encode rs vs in
         let head = lengthBytes (length v) in
         let x = length-append (tagBytes (r .tag)) (head ++ (v ++ rest)) in
@@ -136,7 +147,7 @@ module _ (today : ℕ) (all : Table) where
         let z : at + length (tagBytes (r .tag) ++ (head ++ (v ++ rest))) ≡ at + long (r .tag) + size today all v + length rest = omega (arith, x, y, m) in
         rw (e, z)
         (takes today all r (rs ++ later) at v (rest ++ t) (p .0) (omega (arith, x, y, m)) (fits-good today r v (bytes-front v (rest ++ t) b₁) (a .0))
-        ∙ ap (prepend (partAt today all (at + long (r .tag)) v)) (back rs later vs (at + long (r .tag) + size today all v) t (p .1) (d .1) k (a .1) l (bytes-back v (rest ++ t) b₁) (omega (arith, x, y, m)) w))
+        ∙ ap (prepend (partAt today all (at + long (r .tag)) v)) (back all-tags rs later vs (at + long (r .tag) + size today all v) t (p .1) (d .1) k (a .1) l (bytes-back v (rest ++ t) b₁) (omega (arith, x, y, m)) w))
 
 -- ---- rows before and after
 
@@ -165,9 +176,9 @@ module _ (kind today : ℕ) (f : Finding) where
       let g : Tags (table kind) (h .rows) = tags-front (table kind) (h .rows) (h .later) (subst (Tags (table kind)) (h .split) (tags kind)) in
       ap (λ (x : Table). parse today (table kind) x at s) (h .split)
       ∙ ap (parse today (table kind) (h .rows ++ h .later) at) q
-      ∙ back today (table kind) (f .fault) (h .rows) (h .later) (h .vs) at t g d (λ u z. has-later u (h .rows) (h .later) (sym (ap (has u) (h .split)) ∙ z)) (h .allowed) (h .last)
+      ∙ back today (table kind) (f .fault) (tags kind) (h .rows) (h .later) (h .vs) at t g d (λ u z. has-later u (h .rows) (h .later) (sym (ap (has u) (h .split)) ∙ z)) (h .allowed) (h .last)
       (rw q at b) n (h .wrong)
-      ∙ ap (λ (p : ℕ). fault (found (f .fault) p)) (sym (h .place-is))
+      ∙ ap (λ (p : ℕ). fault (found (f .fault) p (f .tag))) (sym (h .place-is))
 
   passed : (c : List ℕ) → IsKind kind → IsDate today → length c ≤ largest → outer kind today c ≡ fault f → parsed kind today c ≡ fault f
   unfolding parsed located

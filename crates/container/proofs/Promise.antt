@@ -19,7 +19,7 @@ use Rattle.lengths.proofs.Spellings.{exact as spelling-exact, reads-back}
 use Rattle.dates.specs.Date.{IsDate, isDate}
 use Rattle.dates.proofs.Dates.{date-exact}
 use Rattle.kinds.specs.Tables.{Table, table, IsKind, isKind}
-use Rattle.verdicts.specs.Verdicts.{found, verdictOf}
+use Rattle.verdicts.specs.Verdicts.{outright, verdictOf}
 use Rattle.verdicts.proofs.Apart.{never-zero}
 use Rattle.verdicts.specs.declared.Outcome.{Outcome}
 use Rattle.verdicts.specs.declared.Outcome.the-variants.{Fine, Broken}
@@ -162,7 +162,7 @@ module _ (kind today : ℕ) (f : Finding) (ki : IsKind kind) (di : IsDate today)
       elim (which (eqb (length s) (n .width + n .number))) [
         | inl q ↦
             in-element ki di l (ap (λ (x : ℕ). x ∷ []) h) (n .number) (drop (n .width) s) (c .0) (omega (arith, m, eqb-true (length s) (n .width + n .number) q))
-            (rw (← c .1) (first today (table kind) (table kind) (1 + n .width) (drop (n .width) s) (below-drop 256 (n .width) s b) f (rw q at e)))
+            (rw (← c .1) (first today (table kind) (tags kind) (table kind) (1 + n .width) (drop (n .width) s) (below-drop 256 (n .width) s b) f (rw q at e)))
         | inr q ↦
             outer-end ki di l (ap (λ (x : ℕ). x ∷ []) h) (n .number) (drop (n .width) s) (c .0)
             (λ g. eqb-false (length s) (n .width + n .number) q (omega (arith, m, g))) (finding-is (rw q at e))
@@ -179,7 +179,7 @@ module _ (kind today : ℕ) (f : Finding) (ki : IsKind kind) (di : IsDate today)
   in-located : (c : List ℕ) → Bytes c → located kind today c ≡ fault f → Named kind today c f
   unfolding located
   in-located c b e =
-      let e′ : cond (leb (length c) largest) (outer kind today c) (fault (found LargeContainer 0)) ≡ fault f = rw (kind-exact kind .1 ki, date-exact today .1 di) at e in
+      let e′ : cond (leb (length c) largest) (outer kind today c) (fault (outright LargeContainer)) ≡ fault f = rw (kind-exact kind .1 ki, date-exact today .1 di) at e in
       elim (which (leb (length c) largest)) [
         | inl l ↦ in-outer c (leb-true _ _ l) b (rw l at e′)
         | inr l ↦ too-large ki di (leb-false _ _ l) (finding-is (rw l at e′))

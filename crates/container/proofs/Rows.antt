@@ -19,6 +19,7 @@ use Rattle.kinds.specs.declared.Row.{Row}
 use Rattle.kinds.specs.declared.Row.the-variants.{At, Missing}
 use Rattle.verdicts.specs.Verdicts.{found}
 use Rattle.verdicts.specs.declared.Fault.the-variants.{UnknownTag, TagOrder, MissingRow}
+use Rattle.verdicts.specs.declared.Tag.the-variants.{NoTag, Of}
 use Rattle.verdicts.specs.declared.Outcome.the-variants.{Fine}
 use Rattle.container.specs.Container.{long, has, tagHere}
 use Rattle.container.specs.Reading.{Parsed, values, fault, Part, prepend, element, misplaced, follow, parse}
@@ -66,10 +67,10 @@ module _ (today : ℕ) (all : Table) (at b : ℕ) (s : List ℕ) where
   -- an element of the row that `row_of` names, and the rows after it
   abbrev pub taken : ℕ → ℕ → ℕ → Bool → ValueRule → Parsed Part
   taken i least most empty rule =
-      follow at (at + long t) (element (lengthsOf least most empty) rule today (drop (long t) (b ∷ s))) (λ n. parse today all (drop i all) (at + long t + n) (drop (long t + n) (b ∷ s)))
+      follow at t (element (lengthsOf least most empty) rule today (drop (long t) (b ∷ s))) (λ n. parse today all (drop i all) (at + long t + n) (drop (long t + n) (b ∷ s)))
 
   -- a tag that is in no row to come
-  pub gone : (rest : Table) → has t rest ≡ false → parse today all rest at (b ∷ s) ≡ fault (found (cond (has t all) TagOrder UnknownTag) at)
+  pub gone : (rest : Table) → has t rest ≡ false → parse today all rest at (b ∷ s) ≡ fault (found (cond (has t all) TagOrder UnknownTag) at (Of t))
   gone [] h = refl
   gone (r ∷ rs) h =
       elim (which (eqb t (r .tag))) [
@@ -85,13 +86,13 @@ module _ (today : ℕ) (all : Table) (at b : ℕ) (s : List ℕ) where
   module _ (starts ends : List ℕ) where
     -- what the code makes of what `row_of` says, after the row `done`
     abbrev pub byRow : ℕ → Row → Map
-    byRow done Missing = lost (found UnknownTag at)
+    byRow done Missing = lost (found UnknownTag at (Of t))
     byRow done (At i from least most empty rule) =
-        cond (leb i done) (lost (found TagOrder at)) (cond (ltb done from) (lost (found MissingRow at)) (noted (i - 1) starts ends (taken i least most empty rule)))
+        cond (leb i done) (lost (found TagOrder at (Of t))) (cond (ltb done from) (lost (found MissingRow at (Of t))) (noted (i - 1) starts ends (taken i least most empty rule)))
 
     module _ (done : ℕ) where
       -- a mandatory row was passed over
-      passed : (rest : Table) (j from : ℕ) → done < from → done ≤ j → has t all ≡ has t rest → byRow done (find j from rest t) ≡ lost (found (misplaced all rest t) at)
+      passed : (rest : Table) (j from : ℕ) → done < from → done ≤ j → has t all ≡ has t rest → byRow done (find j from rest t) ≡ lost (found (misplaced all rest t) at (Of t))
       passed [] j from f l h = rw h
       passed (r ∷ rs) j from f l h =
           elim (which (eqb t (r .tag))) [
@@ -111,7 +112,7 @@ module _ (today : ℕ) (all : Table) (at b : ℕ) (s : List ℕ) where
                 let k : j + 1 - 1 ≡ j = omega arith in
                 rw q
                 (simp (lt-leb (j + 1) done (omega arith), le-ltb _ _ f, k)
-                (ap₂ (λ (u : ℕ) (l : Table). noted j starts ends (follow at (at + long u) (element (r .lengths) (r .rule) today (drop (long u) (b ∷ s))) (λ n. parse today all l (at + long u + n) (drop (long u + n) (b ∷ s))))) (eqb-true t (r .tag) q) (sym e′)))
+                (ap₂ (λ (u : ℕ) (l : Table). noted j starts ends (follow at u (element (r .lengths) (r .rule) today (drop (long u) (b ∷ s))) (λ n. parse today all l (at + long u + n) (drop (long u + n) (b ∷ s))))) (eqb-true t (r .tag) q) (sym e′)))
             | inr q ↦
                 let h′ : has t all ≡ has t rs = rw q at h in
                 elim (which (r .optional)) [
@@ -156,7 +157,7 @@ last-from (r ∷ rs) i from h =
 
 module _ (today : ℕ) (all : Table) (at done : ℕ) (starts ends : List ℕ) where
   abbrev pub byLast : ℕ → Map
-  byLast last = cond (ltb done last) (lost (found MissingRow at)) (record { outcome = Fine; from = starts; to = ends })
+  byLast last = cond (ltb done last) (lost (found MissingRow at NoTag)) (record { outcome = Fine; from = starts; to = ends })
 
   end-ahead : (rest : Table) (j from : ℕ) → done ≤ j → from ≤ done → byLast (lastOf j from rest) ≡ noted j starts ends (parse today all rest at [])
   unfolding noted

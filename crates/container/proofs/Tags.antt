@@ -1,10 +1,12 @@
 -- Tags: the bytes that begin one, the tables' tags by computation, and the tag at an offset by the code's tests. Assumes nothing.
 use Prim.Native.Nat.{ℕ, _+_, _≤_, _<_}
-use mathlib.Core.Path.{_≡_, refl, sym, ap₂, _∙_}
+use mathlib.Core.Path.{_≡_, refl, sym, ap, ap₂, _∙_}
 use mathlib.Core.Bool.{Bool, true, false, cond, not, _&&_, _||_, and-false, true≢false}
 use mathlib.Core.Logic.{inl, inr}
 use mathlib.Core.List.{List, [], _∷_, _++_}
+use native.Mathlib.Omega.{arith}
 use lib.ListN.{length, getD, drop, drop-of-length-le}
+use lib.Seq.{drop-append-seam}
 use lib.Dec.{ltb, eqb}
 use borrow.Author.Tests.{lt-ltb, ne-eqb, eqb-true, eqb-false, ltb-true, not-true}
 use Rattle.laws.specs.Tests.{allBelow}
@@ -13,6 +15,7 @@ use Rattle.laws.proofs.Turns.{from-one}
 use Rattle.kinds.specs.Tables.{Table, table}
 use Rattle.kinds.proofs.Every.{of-every, of-every-kind}
 use Rattle.container.specs.Container.{tagBytes, long, has, tagHere}
+use Rattle.container.specs.InOrder.{IsTag, of-table, a-byte}
 use Rattle.container.proofs.Rows.{Distinct}
 
 -- no table has a tag twice
@@ -102,6 +105,66 @@ alone-here all u (x ∷ s) h = simp (ne-eqb u 0x5F h, and-false)
 pub begins : (all : Table) (u : ℕ) (s : List ℕ) → Plain all u → Begins all u s
 begins all u s (short h k) = record { first = u; then = s; bytes = simp (lt-ltb u 256 h); tag = alone-here all u s k }
 begins all u s (double e h) = record { first = 0x5F; then = 0x2F ∷ s; bytes = rw e; tag = rw h (sym e) }
+
+-- ---- the tag that stands at the front of some bytes is the one that is read there
+
+pub has-plain : (all rs : Table) (t : ℕ) → Tags all rs → has t rs ≡ true → Plain all t
+has-plain all [] t p h = absurd (true≢false (sym h))
+has-plain all (r ∷ rs) t p h =
+    elim (which (eqb t (r .tag))) [
+      | inl q ↦ rw (eqb-true t (r .tag) q) (p .0)
+      | inr q ↦ has-plain all rs t (p .1) (rw q at h)
+    ]
+
+-- what the table has not is one byte
+lone : (all : Table) (b : ℕ) (s : List ℕ) → has (tagHere all b s) all ≡ false → tagHere all b s ≡ b
+lone all b [] h = refl
+lone all b (x ∷ s) h =
+    elim (which (has 0x5F2F all && (eqb b 0x5F && eqb x 0x2F))) [
+      | inl q ↦ absurd (true≢false (sym (and-true (has 0x5F2F all) _ q .0) ∙ rw q at h))
+      | inr q ↦ rw q
+    ]
+
+pub no-tag : (all : Table) (t : ℕ) (r : List ℕ) → Tags all all → IsTag all [] t r → ⊥
+no-tag all t r p (of-table h e) =
+    let z : _≡_ {A = ℕ} 0 1 = (let g = e ∙ begins all t r (has-plain all all t p h) .bytes in cc) in
+    omega arith
+no-tag all t r p (a-byte e n) = let z : _≡_ {A = ℕ} 0 1 = cc in omega arith
+
+module _ (all : Table) (p : Tags all all) (b : ℕ) (s : List ℕ) (k : b < 256) where
+  abbrev here : ℕ
+  here = tagHere all b s
+
+  in-table : (t : ℕ) (r : List ℕ) → has t all ≡ true → b ∷ s ≡ tagBytes t ++ r → here ≡ t
+  in-table t r h e =
+      let g = begins all t r (has-plain all all t p h) in
+      let q : b ∷ s ≡ g .first ∷ g .then = e ∙ g .bytes in
+      let x : b ≡ g .first = cc in
+      let y : s ≡ g .then = cc in
+      ap₂ (tagHere all) x y ∙ g .tag
+
+  pub tag-read : (t : ℕ) (r : List ℕ) → IsTag all (b ∷ s) t r → (t ≡ here) × (r ≡ drop (long here) (b ∷ s))
+  tag-read t r (of-table h e) =
+      let q = in-table t r h e in
+      (sym q, sym (ap (λ (u : ℕ). drop (long u) (b ∷ s)) q ∙ ap (drop (long t)) e ∙ drop-append-seam (tagBytes t) r))
+  tag-read t r (a-byte e n) =
+      elim (which (has here all)) [
+        | inl h ↦ absurd (n here _ h (tag-is all b s k))
+        | inr h ↦
+            let q = lone all b s h in
+            let x : b ≡ t = cc in
+            let y : s ≡ r = cc in
+            (sym x ∙ sym q, rw q (simp (lt-ltb b 256 k) (sym y)))
+      ]
+
+  pub tag-stands : IsTag all (b ∷ s) here (drop (long here) (b ∷ s))
+  tag-stands =
+      elim (which (has here all)) [
+        | inl h ↦ of-table h (tag-is all b s k)
+        | inr h ↦
+            let q = lone all b s h in
+            a-byte (rw q (simp (lt-ltb b 256 k) refl)) (λ u r g e. true≢false (sym g ∙ rw (in-table u r g e) at h))
+      ]
 
 -- ---- the tag at an offset, by the tests that the code makes
 

@@ -18,6 +18,7 @@ use Rattle.kinds.proofs.Every.{row-number}
 use Rattle.verdicts.specs.Verdicts.{found}
 use Rattle.verdicts.specs.declared.Fault.{Fault}
 use Rattle.verdicts.specs.declared.Fault.the-variants.{UnknownTag, TagOrder, MissingRow}
+use Rattle.verdicts.specs.declared.Tag.the-variants.{NoTag, Of}
 use Rattle.verdicts.specs.declared.Outcome.the-variants.{Fine}
 use Rattle.container.specs.Container.{long, tagHere}
 use Rattle.container.specs.Reading.{Parsed, Part, Element, whole, broken, element, follow, parse}
@@ -58,17 +59,17 @@ module _ (kind today : ℕ) (c : List ℕ) (at done : ℕ) (h : at < length c) w
   unfolding mapFrom
   by-tag starts ends = rw (from-one c at h) (by-row today (table kind) at byte rest starts ends done (distinct kind))
 
-  pub unknown : Missing ≡ rowOf kind tag → Same (λ starts ends. lost (found UnknownTag at))
+  pub unknown : Missing ≡ rowOf kind tag → Same (λ starts ends. lost (found UnknownTag at (Of tag)))
   unknown e starts ends = ap (byRow today (table kind) at byte rest starts ends done) e ∙ by-tag starts ends
 
   module _ {i from least most : ℕ} {empty : Bool} {rule : ValueRule} (e : At i from least most empty rule ≡ rowOf kind tag) where
     row : Same (λ starts ends. byRow today (table kind) at byte rest starts ends done (At i from least most empty rule))
     row starts ends = ap (byRow today (table kind) at byte rest starts ends done) e ∙ by-tag starts ends
 
-    pub earlier : i ≤ done → Same (λ starts ends. lost (found TagOrder at))
+    pub earlier : i ≤ done → Same (λ starts ends. lost (found TagOrder at (Of tag)))
     earlier l starts ends = simp (le-leb _ _ l) at (row starts ends)
 
-    pub missed : done < i → done < from → Same (λ starts ends. lost (found MissingRow at))
+    pub missed : done < i → done < from → Same (λ starts ends. lost (found MissingRow at (Of tag)))
     missed l m starts ends = simp (lt-leb _ _ l, lt-ltb _ _ m) at (row starts ends)
 
     module _ (l : done < i) (m : from ≤ done) {begin : ℕ} (s : begin ≡ at + long tag) where
@@ -82,12 +83,12 @@ module _ (kind today : ℕ) (c : List ℕ) (at done : ℕ) (h : at < length c) w
       abbrev after : ℕ → Parsed Part
       after n = parse today (table kind) (drop i (table kind)) (at + long tag + n) (drop (long tag + n) (byte ∷ rest))
 
-      here : Same (λ starts ends. noted (i - 1) starts ends (follow at (at + long tag) (element (lengthsOf least most empty) rule today (drop begin c)) after))
+      here : Same (λ starts ends. noted (i - 1) starts ends (follow at tag (element (lengthsOf least most empty) rule today (drop begin c)) after))
       here starts ends =
-          ap (λ (x : List ℕ). noted (i - 1) starts ends (follow at (at + long tag) (element (lengthsOf least most empty) rule today x) after)) (sym body)
+          ap (λ (x : List ℕ). noted (i - 1) starts ends (follow at tag (element (lengthsOf least most empty) rule today x) after)) (sym body)
           ∙ simp (lt-leb _ _ l, le-ltb _ _ m) at (row starts ends)
 
-      pub breaks : {f : Fault} → Bad f ≡ valueAt begin (element (lengthsOf least most empty) rule today (drop begin c)) → Same (λ starts ends. lost (found f at))
+      pub breaks : {f : Fault} → Bad f ≡ valueAt begin (element (lengthsOf least most empty) rule today (drop begin c)) → Same (λ starts ends. lost (found f at (Of tag)))
       unfolding noted
       breaks f starts ends = rw (broken-value begin (element (lengthsOf least most empty) rule today (drop begin c)) f) at (here starts ends)
 
@@ -121,7 +122,7 @@ module _ (kind today : ℕ) (c : List ℕ) (at done : ℕ) (starts ends : List �
   unfolding mapFrom
   ended = rw (e, drop-of-length-le c h) (by-last today (table kind) at done starts ends)
 
-  pub cut-off : done < last → lost (found MissingRow at) ≡ mapFrom kind today c at done starts ends
+  pub cut-off : done < last → lost (found MissingRow at NoTag) ≡ mapFrom kind today c at done starts ends
   cut-off l = simp (lt-ltb _ _ l) at ended
 
   pub complete : last ≤ done → record { outcome = Fine; from = starts; to = ends } ≡ mapFrom kind today c at done starts ends

@@ -16,7 +16,7 @@ use Rattle.lengths.proofs.Reading.{some-read, none-read}
 use Rattle.lengths.proofs.Spellings.{inside as spelling-inside}
 use Rattle.dates.specs.Date.{isDate}
 use Rattle.kinds.specs.Tables.{isKind}
-use Rattle.verdicts.specs.Verdicts.{found}
+use Rattle.verdicts.specs.Verdicts.{outright}
 use Rattle.verdicts.specs.declared.Fault.the-variants.{UnknownKind, NoDate, LargeContainer, OuterTag, LengthForm, Overrun}
 use Rattle.container.specs.Container.{outerTag, largest}
 use Rattle.container.specs.Reading.{outer, located}
@@ -25,17 +25,17 @@ use Rattle.container.specs.Map.{lost, noted, mapOf, mapFrom}
 -- ---- 1, 2, 4
 
 module _ (kind today : ℕ) (c : List ℕ) where
-  pub bad-kind : isKind kind ≡ false → lost (found UnknownKind 0) ≡ mapOf (located kind today c)
+  pub bad-kind : isKind kind ≡ false → lost (outright UnknownKind) ≡ mapOf (located kind today c)
   unfolding located noted
   bad-kind k = rw k
 
   module _ (k : isKind kind ≡ true) where
-    pub bad-date : isDate today ≡ false → lost (found NoDate 0) ≡ mapOf (located kind today c)
+    pub bad-date : isDate today ≡ false → lost (outright NoDate) ≡ mapOf (located kind today c)
     unfolding located noted
     bad-date d = rw (k, d)
 
     module _ (d : isDate today ≡ true) where
-      pub too-large : largest < length c → lost (found LargeContainer 0) ≡ mapOf (located kind today c)
+      pub too-large : largest < length c → lost (outright LargeContainer) ≡ mapOf (located kind today c)
       unfolding located noted
       too-large l = rw (k, d, lt-leb _ _ l)
 
@@ -45,17 +45,17 @@ module _ (kind today : ℕ) (c : List ℕ) where
 
 -- ---- 10, 11, 12
 
-pub no-bytes : (kind today : ℕ) (c : List ℕ) → length c ≡ 0 → lost (found OuterTag 0) ≡ mapOf (outer kind today c)
+pub no-bytes : (kind today : ℕ) (c : List ℕ) → length c ≡ 0 → lost (outright OuterTag) ≡ mapOf (outer kind today c)
 unfolding noted
 no-bytes kind today [] h = refl
 no-bytes kind today (t ∷ s) h = absurd (omega arith)
 
-pub wrong-tag : (kind today : ℕ) (c : List ℕ) → (getD c 0 0 ≡ outerTag kind → ⊥) → lost (found OuterTag 0) ≡ mapOf (outer kind today c)
+pub wrong-tag : (kind today : ℕ) (c : List ℕ) → (getD c 0 0 ≡ outerTag kind → ⊥) → lost (outright OuterTag) ≡ mapOf (outer kind today c)
 unfolding noted
 wrong-tag kind today [] h = refl
 wrong-tag kind today (t ∷ s) h = rw (ne-eqb t (outerTag kind) h)
 
-pub no-length : (kind today : ℕ) (c : List ℕ) → (length c ≡ 0 → ⊥) → getD c 0 0 ≡ outerTag kind → Bad ≡ lengthAt 1 (drop 1 c) → lost (found LengthForm 0) ≡ mapOf (outer kind today c)
+pub no-length : (kind today : ℕ) (c : List ℕ) → (length c ≡ 0 → ⊥) → getD c 0 0 ≡ outerTag kind → Bad ≡ lengthAt 1 (drop 1 c) → lost (outright LengthForm) ≡ mapOf (outer kind today c)
 unfolding noted
 no-length kind today [] z h f = absurd (z refl)
 no-length kind today (t ∷ s) z h f = rw (eq-eqb t (outerTag kind) h, none-read 1 s f)
@@ -69,7 +69,7 @@ within-outer (t ∷ s) {n} {next} b z f =
     omega (arith, m .2, r .1)
 
 pub off-end : (kind today : ℕ) (c : List ℕ) {n next : ℕ} → Bytes c → (length c ≡ 0 → ⊥) → getD c 0 0 ≡ outerTag kind → Is n next ≡ lengthAt 1 (drop 1 c) → (length c - next ≡ n → ⊥)
-    → lost (found Overrun 0) ≡ mapOf (outer kind today c)
+    → lost (outright Overrun) ≡ mapOf (outer kind today c)
 unfolding noted
 off-end kind today [] b z h f k = absurd (z refl)
 off-end kind today (t ∷ s) {n} {next} b z h f k =

@@ -1,5 +1,5 @@
--- 01, "Order": what is wrong with an element, in the order in which 01 names the numbers, and the first broken rule. `proofs/Named.antt` shows that
--- this is what is read, and nothing else.
+-- 01, "Order": what is wrong with an element, in the order in which 01 names the numbers, and the first broken rule, its place, and (2026-02) the tag of
+-- the element there. `proofs/Named.antt` shows that this is what is read, and nothing else.
 use Prim.Native.Nat.{ℕ, _+_, _<_, _≤_}
 use mathlib.Core.Logic.{_⊎_}
 use mathlib.Core.Path.{_≡_}
@@ -12,13 +12,21 @@ use Rattle.lengths.specs.Length.{lengthBytes}
 use Rattle.kinds.specs.Tables.{Lengths, Permitted, Entry, Table, table, IsKind}
 use Rattle.kinds.specs.declared.ValueRule.{ValueRule}
 use Rattle.rules.specs.Rules.{Violates}
-use Rattle.verdicts.specs.Verdicts.{found}
+use Rattle.verdicts.specs.Verdicts.{outright}
+use Rattle.verdicts.specs.declared.Tag.{Tag}
+use Rattle.verdicts.specs.declared.Tag.the-variants.{NoTag, Of}
 use Rattle.verdicts.specs.declared.Finding.{Finding}
 use Rattle.verdicts.specs.declared.Fault.{Fault}
 use Rattle.verdicts.specs.declared.Fault.the-variants.{UnknownKind, NoDate, LargeContainer, OuterTag, LengthForm, Overrun, UnknownTag, TagOrder, MissingRow, ElementLength}
-use Rattle.container.specs.Container.{Values, long, has, tagHere, encode, outerTag, Allowed, largest}
+use Rattle.container.specs.Container.{Values, tagBytes, has, encode, outerTag, Allowed, largest}
 
 -- ---- an element
+
+-- at the front of s stands the tag t, and r follows it: a tag of the table `all`; or one byte, where none of them stands ("there a 5F without 2F after it
+-- is 13")
+pub data IsTag (all : Table) (s : List ℕ) (t : ℕ) (r : List ℕ) : Type 0 where
+  of-table : has t all ≡ true → s ≡ tagBytes t ++ r → IsTag all s t r
+  a-byte : s ≡ t ∷ r → ((u : ℕ) (q : List ℕ) → has u all ≡ true → s ≡ tagBytes u ++ q → ⊥) → IsTag all s t r
 
 -- at the front of s stands the length n, and r follows it
 abbrev pub IsLength : List ℕ → ℕ → List ℕ → Type 0
@@ -48,11 +56,12 @@ pub data AtFault (today : ℕ) (all rest : Table) (t : ℕ) (s : List ℕ) (f : 
 
 -- ---- the first broken rule
 
--- with the rows `rest` of the table `all` to come, the bytes s break the rule f at once: they end and a mandatory row is due, or the element that they
--- begin with is at fault
-abbrev pub Wrong : ℕ → Table → Table → List ℕ → Fault → Type 0
-Wrong today all rest [] f = Owed rest × (f ≡ MissingRow)
-Wrong today all rest (b ∷ s) f = let t = tagHere all b s in AtFault today all rest t (drop (long t) (b ∷ s)) f
+-- with the rows `rest` of the table `all` to come, the bytes s break the rule f at once, and this is the finding's tag. They end and a mandatory row is due:
+-- "`--` .. for a row missing at the end"; or the element that they begin with is at fault, and the tag is its own: not that of a row that is missing, nor
+-- that of the element before
+pub data Wrong (today : ℕ) (all rest : Table) (s : List ℕ) (f : Fault) (tag : Tag) : Type 0 where
+  at-end : s ≡ [] → Owed rest → f ≡ MissingRow → tag ≡ NoTag → Wrong today all rest s f tag
+  at-element : (t : ℕ) (r : List ℕ) → IsTag all s t r → AtFault today all rest t r f → tag ≡ Of t → Wrong today all rest s f tag
 
 -- the last of some values is there
 abbrev pub LastThere : Values → Type 0
@@ -72,17 +81,17 @@ pub record First (today : ℕ) (all rest : Table) (at : ℕ) (s : List ℕ) (f :
   pub last : LastThere vs
   pub place-is : f .place ≡ at + length (encode rows vs)
   pub written : take (length (encode rows vs)) s ≡ encode rows vs
-  pub wrong : Wrong today all later (drop (length (encode rows vs)) s) (f .fault)
+  pub wrong : Wrong today all later (drop (length (encode rows vs)) s) (f .fault) (f .tag)
 
--- "Check: 1, 2, 4, then outer 10, 11, 12 (place 0), then each element": the first broken rule of the bytes c, and its place
+-- "Check: 1, 2, 4, then outer 10, 11, 12 (place 0), then each element": the first broken rule of the bytes c, its place and its tag
 pub data Named (kind today : ℕ) (c : List ℕ) (f : Finding) : Type 0 where
-  no-kind : (IsKind kind → ⊥) → f ≡ found UnknownKind 0 → Named kind today c f
-  no-date : IsKind kind → (IsDate today → ⊥) → f ≡ found NoDate 0 → Named kind today c f
-  too-large : IsKind kind → IsDate today → largest < length c → f ≡ found LargeContainer 0 → Named kind today c f
-  outer-tag : IsKind kind → IsDate today → length c ≤ largest → (take 1 c ≡ outerTag kind ∷ [] → ⊥) → f ≡ found OuterTag 0 → Named kind today c f
+  no-kind : (IsKind kind → ⊥) → f ≡ outright UnknownKind → Named kind today c f
+  no-date : IsKind kind → (IsDate today → ⊥) → f ≡ outright NoDate → Named kind today c f
+  too-large : IsKind kind → IsDate today → largest < length c → f ≡ outright LargeContainer → Named kind today c f
+  outer-tag : IsKind kind → IsDate today → length c ≤ largest → (take 1 c ≡ outerTag kind ∷ [] → ⊥) → f ≡ outright OuterTag → Named kind today c f
   outer-length : IsKind kind → IsDate today → length c ≤ largest → take 1 c ≡ outerTag kind ∷ [] → ((n : ℕ) (r : List ℕ) → IsLength (drop 1 c) n r → ⊥)
-      → f ≡ found LengthForm 0 → Named kind today c f
+      → f ≡ outright LengthForm → Named kind today c f
   outer-end : IsKind kind → IsDate today → length c ≤ largest → take 1 c ≡ outerTag kind ∷ [] → (n : ℕ) (r : List ℕ) → IsLength (drop 1 c) n r
-      → (length r ≡ n → ⊥) → f ≡ found Overrun 0 → Named kind today c f
+      → (length r ≡ n → ⊥) → f ≡ outright Overrun → Named kind today c f
   in-element : IsKind kind → IsDate today → length c ≤ largest → take 1 c ≡ outerTag kind ∷ [] → (n : ℕ) (r : List ℕ) → IsLength (drop 1 c) n r
       → length r ≡ n → First today (table kind) (table kind) (1 + length (lengthBytes n)) r f → Named kind today c f

@@ -1,4 +1,4 @@
--- A container read: for each row its value and where it stands, or the first rule that it breaks and its place. `proofs/` shows that values are read
+-- A container read: for each row its value and where it stands, or the first rule that it breaks, its place and the tag there. `proofs/` shows that values are read
 -- exactly where the container conforms (`Promise`), that they stand where it says (`Lying`), and that a fault is read exactly where it is the first broken
 -- rule (`Named`).
 use Prim.Native.Nat.{ℕ, _+_}
@@ -12,9 +12,10 @@ use Rattle.kinds.specs.Tables.{Lengths, Table, table, permitted, isKind}
 use Rattle.kinds.specs.declared.ValueRule.{ValueRule}
 use Rattle.dates.specs.Date.{isDate}
 use Rattle.rules.specs.Rules.{ruleOf}
-use Rattle.verdicts.specs.Verdicts.{found, verdictOf}
+use Rattle.verdicts.specs.Verdicts.{outright, found, verdictOf}
 use Rattle.verdicts.specs.declared.Fault.{Fault}
 use Rattle.verdicts.specs.declared.Fault.the-variants.{UnknownKind, NoDate, LargeContainer, OuterTag, LengthForm, Overrun, UnknownTag, TagOrder, MissingRow, ElementLength}
+use Rattle.verdicts.specs.declared.Tag.the-variants.{NoTag, Of}
 use Rattle.verdicts.specs.declared.Finding.{Finding}
 use Rattle.verdicts.specs.declared.Ruling.{Ruling}
 use Rattle.verdicts.specs.declared.Ruling.the-variants.{Kept, Breaks}
@@ -78,41 +79,41 @@ module _ (l : Lengths) (rule : ValueRule) (today : ℕ) where
 abbrev pub misplaced : Table → Table → ℕ → Fault
 misplaced all rest t = cond (has t rest) MissingRow (cond (has t all) TagOrder UnknownTag)
 
--- an element that stands at `at` and has its length at `start`, and what follows its length and value
+-- an element that stands at `at` and has the tag t, and what follows its length and value
 abbrev pub follow : ℕ → ℕ → Element → (ℕ → Parsed Part) → Parsed Part
-follow at start (whole width v) k = prepend (some (record { offset = start + width; bytes = v })) (k (width + length v))
-follow at start (broken f) k = fault (found f at)
+follow at t (whole width v) k = prepend (some (record { offset = at + long t + width; bytes = v })) (k (width + length v))
+follow at t (broken f) k = fault (found f at (Of t))
 
 -- the bytes s, which start at the offset `at`, as elements of the rows to come
 abbrev pub parse : ℕ → Table → Table → ℕ → List ℕ → Parsed Part
 parse today all [] at [] = values []
-parse today all [] at (b ∷ s) = fault (found (misplaced all [] (tagHere all b s)) at)
-parse today all (r ∷ rs) at [] = cond (r .optional) (prepend none (parse today all rs at [])) (fault (found MissingRow at))
+parse today all [] at (b ∷ s) = fault (found (misplaced all [] (tagHere all b s)) at (Of (tagHere all b s)))
+parse today all (r ∷ rs) at [] = cond (r .optional) (prepend none (parse today all rs at [])) (fault (found MissingRow at NoTag))
 parse today all (r ∷ rs) at (b ∷ s) =
     cond (eqb (tagHere all b s) (r .tag))
-    (follow at (at + long (r .tag)) (element (r .lengths) (r .rule) today (drop (long (r .tag)) (b ∷ s)))
+    (follow at (r .tag) (element (r .lengths) (r .rule) today (drop (long (r .tag)) (b ∷ s)))
     (λ n. parse today all rs (at + long (r .tag) + n) (drop (long (r .tag) + n) (b ∷ s))))
-    (cond (r .optional) (prepend none (parse today all rs at (b ∷ s))) (fault (found (misplaced all (r ∷ rs) (tagHere all b s)) at)))
+    (cond (r .optional) (prepend none (parse today all rs at (b ∷ s))) (fault (found (misplaced all (r ∷ rs) (tagHere all b s)) at (Of (tagHere all b s)))))
 
--- ---- the whole: "outer 10, 11, 12 (place 0)"
+-- ---- the whole: "outer 10, 11, 12 (place 0)", which have no tag
 
 abbrev pub inner : ℕ → Table → Option Spelt → List ℕ → Parsed Part
-inner today rows none s = fault (found LengthForm 0)
+inner today rows none s = fault (outright LengthForm)
 inner today rows (some n) s =
-    cond (eqb (length s) (n .width + n .number)) (parse today rows rows (1 + n .width) (drop (n .width) s)) (fault (found Overrun 0))
+    cond (eqb (length s) (n .width + n .number)) (parse today rows rows (1 + n .width) (drop (n .width) s)) (fault (outright Overrun))
 
 abbrev pub outer : ℕ → ℕ → List ℕ → Parsed Part
-outer kind today [] = fault (found OuterTag 0)
-outer kind today (t ∷ s) = cond (eqb t (outerTag kind)) (inner today (table kind) (readLength s) s) (fault (found OuterTag 0))
+outer kind today [] = fault (outright OuterTag)
+outer kind today (t ∷ s) = cond (eqb t (outerTag kind)) (inner today (table kind) (readLength s) s) (fault (outright OuterTag))
 
 -- "Check: 1, 2, 4, then outer 10, 11, 12 (place 0), then each element"
 unfoldable pub located : ℕ → ℕ → List ℕ → Parsed Part
 located kind today c =
     cond (isKind kind)
     (cond (isDate today)
-    (cond (leb (length c) largest) (outer kind today c) (fault (found LargeContainer 0)))
-    (fault (found NoDate 0)))
-    (fault (found UnknownKind 0))
+    (cond (leb (length c) largest) (outer kind today c) (fault (outright LargeContainer)))
+    (fault (outright NoDate)))
+    (fault (outright UnknownKind))
 
 -- the values alone
 unfoldable pub parsed : ℕ → ℕ → List ℕ → Parsed (List ℕ)

@@ -7,7 +7,7 @@ ghost use lib.ListN.{length, drop, getD};
 ghost use Rattle.laws.specs.Room.{zeros};
 ghost use Rattle.laws.specs.Layout.{part};
 ghost use Rattle.kinds.specs.Tables.{table, permits};
-ghost use Rattle.verdicts.specs.Verdicts.{found};
+ghost use Rattle.verdicts.specs.Verdicts.{outright};
 ghost use Rattle.container.specs.Container.{long, tagHere, outerTag, largest};
 ghost use Rattle.container.specs.Reading.{element, outer, located};
 ghost use Rattle.container.specs.Map.{lost, mapOf, Inside, mapFrom, Steps, valueAt, lengthsOf};
@@ -18,6 +18,7 @@ use verdicts::Fault;
 use verdicts::Finding;
 use verdicts::Outcome;
 use verdicts::Ruling;
+use verdicts::Tag;
 
 // The outcome, and from where to where the value of each row lies: 0 and 0 for a row that is absent, and throughout where
 // something is wrong.
@@ -50,11 +51,11 @@ fn lost(f: Finding) -> Map
     }
 }
 
-// Something is wrong before the first element: the place is 0.
+// Something is wrong before the first element: the place is 0, and there is no tag.
 fn outright(f: Fault) -> Map
-    ensures { λ r. ⌜ r ≡ lost (found f 0) ⌝ }
+    ensures { λ r. ⌜ r ≡ lost (outright f) ⌝ }
 {
-    lost(verdicts::found(f, 0))
+    lost(verdicts::outright(f))
 }
 
 // Whether a row's lengths permit this one.
@@ -129,24 +130,25 @@ fn tag_at(kind: u64, c: &[u8], at: usize) -> u64
     0x5F2F
 }
 
-// The element whose tag is at `at`, after the row `done`: 13, 14, 15, then its length and value.
+// The element whose tag is at `at`, after the row `done`: 13, 14, 15, then its length and value. Whatever is wrong, the finding
+// names the tag that stands here.
 fn element(kind: u64, today: u64, c: &[u8], at: usize, done: u64) -> Step
     requires { ⌜ at < length (now c) ⌝ }
     ensures { λ r. ⌜ Steps kind today (now (c .entry)) at done r ⌝ }
 {
     let tag = tag_at(kind, c, at);
     match kinds::row_of(kind, tag) {
-        Row::Missing => Step::Stop(verdicts::found(Fault::UnknownTag, at)),
+        Row::Missing => Step::Stop(verdicts::found(Fault::UnknownTag, at, Tag::Of(tag))),
         Row::At(index, from, least, most, empty, rule) => {
             if index <= done {
-                return Step::Stop(verdicts::found(Fault::TagOrder, at));
+                return Step::Stop(verdicts::found(Fault::TagOrder, at, Tag::Of(tag)));
             }
             if done < from {
-                return Step::Stop(verdicts::found(Fault::MissingRow, at));
+                return Step::Stop(verdicts::found(Fault::MissingRow, at, Tag::Of(tag)));
             }
             let length = at + tag_len(tag);
             match value_at(c, length, least, most, empty, rule, today) {
-                Value::Bad(f) => Step::Stop(verdicts::found(f, at)),
+                Value::Bad(f) => Step::Stop(verdicts::found(f, at, Tag::Of(tag))),
                 Value::Whole(start, end) => Step::Next(start, end, index),
             }
         }
@@ -178,7 +180,7 @@ fn elements(kind: u64, today: u64, c: &[u8], start: usize) -> Map
         }
     }
     if done < kinds::last_row(kind) {
-        return lost(verdicts::found(Fault::MissingRow, at));
+        return lost(verdicts::found(Fault::MissingRow, at, Tag::NoTag));
     }
     Map {
         outcome: Outcome::Fine,
@@ -197,7 +199,7 @@ pub fn outer_tag(kind: u64) -> u8
     0x53
 }
 
-// The outer form: 10, 11, 12, each with place 0; then the elements.
+// The outer form: 10, 11, 12, each with place 0 and no tag; then the elements.
 fn whole(kind: u64, today: u64, c: &[u8]) -> Map
     requires { ⌜ length (now c) ≤ largest ⌝ }
     ensures { λ r. ⌜ r ≡ mapOf (outer kind today (now (c .entry))) ⌝ }

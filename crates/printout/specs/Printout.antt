@@ -11,7 +11,7 @@ use Rattle.dates.specs.Date.{IsTextOf, isDigit, dateOf}
 use Rattle.dates.specs.declared.Date.{Date}
 use Rattle.dates.specs.declared.Date.the-variants.{Is, Not}
 use Rattle.kinds.specs.Tables.{isKind}
-use Rattle.verdicts.specs.Verdicts.{numberOf, found}
+use Rattle.verdicts.specs.Verdicts.{numberOf, outright}
 use Rattle.verdicts.specs.Output.{Output, refusal, text}
 use Rattle.verdicts.specs.declared.Fault.the-variants.{UnknownKind, NoDate}
 use Rattle.container.specs.Container.{largest}
@@ -26,12 +26,12 @@ kindOf (a ∷ []) = 0
 kindOf (a ∷ b ∷ s) = cond (isDigit a && isDigit b) ((a - 48) * 10 + (b - 48)) 0
 
 abbrev pub dated : ℕ → Date → List ℕ → ℕ → Output
-dated kind Not c room = refusal (found NoDate 0)
+dated kind Not c room = refusal (outright NoDate)
 dated kind (Is today) c room = reportOutput kind today c room
 
 -- "A bad kind wins over everything, a bad date over a container that is too long"
 unfoldable pub deskOutput : List ℕ → ℕ → Output
-deskOutput s room = cond (isKind (kindOf s)) (dated (kindOf s) (dateOf (take 8 (drop 2 s))) (drop 10 s) room) (refusal (found UnknownKind 0))
+deskOutput s room = cond (isKind (kindOf s)) (dated (kindOf s) (dateOf (take 8 (drop 2 s))) (drop 10 s) room) (refusal (outright UnknownKind))
 
 unfoldable pub refusedText : ℕ → List ℕ
 refusedText n = ascii "refused " ++ decimal n ++ 10 ∷ []

@@ -20,7 +20,7 @@ use Rattle.fascn.specs.Calls.{status, output, Encoded}
 use Rattle.fascn.specs.declared.Numbers.{Numbers}
 use Rattle.fascn.specs.declared.Decoded.{Decoded}
 use Rattle.fascn.proofs.Packing.{length-encoded}
-use Rattle.verdicts.specs.Verdicts.{numberOf}
+use Rattle.verdicts.specs.Verdicts.{numberOf, tagNumber}
 use Rattle.verdicts.specs.declared.Fault.{Fault}
 use Rattle.verdicts.proofs.Apart.{never-zero}
 use Rattle.verdicts.specs.declared.Fault.the-variants.{SmallRoom, LongNumber, NoElement, BadFascn}
@@ -42,16 +42,16 @@ use Rattle.promises.proofs.Rooms.{answer, Fits, left-nothing, left-text
 
 -- ---- every number is of 01's table
 
-viewed-numbered : (kind today : ℕ) (c : List ℕ) (tag : ℕ) → Numbered (viewed kind today c tag .number)
+viewed-numbered : (kind today : ℕ) (c : List ℕ) (element : ℕ) → Numbered (viewed kind today c element .verdict .number)
 unfolding viewed
-viewed-numbered kind today c tag = go (located kind today c)
+viewed-numbered kind today c element = go (located kind today c)
   where
-    part : (o : Option Part) → Numbered (shown o .number)
+    part : (o : Option Part) → Numbered (shown o .verdict .number)
     part none = inr (NoElement, refl)
     part (some p) = inl refl
 
-    go : (p : Parsed Part) → Numbered (viewOf kind p tag .number)
-    go (values ps) = part (partOf (table kind) ps tag)
+    go : (p : Parsed Part) → Numbered (viewOf kind p element .verdict .number)
+    go (values ps) = part (partOf (table kind) ps element)
     go (fault f) = inr (f .fault, refl)
 
 decoded-numbered : (s : List ℕ) → Numbered (decoded s .number)
@@ -134,13 +134,14 @@ pub demand-1 : Demand1
 demand-1 = record {
   check-answers = λ kind today c before b. (_, _, answered b refl refl);
   write-answers = λ kind today s before. (_, _, record { leaves = answer (writeOutput kind today s (length before)) before });
-  view-answers = λ kind today c tag at. let v = viewed kind today c tag in (
-    v .number,
-    v .place,
+  view-answers = λ kind today c element at. let v = viewed kind today c element in (
+    v .verdict .number,
+    v .verdict .place,
+    tagNumber (v .verdict .tag),
     (at .0, at .1 + v .part .offset),
     v .part .bytes,
-    record { shows = record { number-is = refl; place-is = refl; block-is = refl; offset-is = refl; bytes-are = refl } },
-    viewed-numbered kind today c tag,
+    record { shows = record { number-is = refl; place-is = refl; tag-is = refl; block-is = refl; offset-is = refl; bytes-are = refl } },
+    viewed-numbered kind today c element,
   );
   report-answers = λ kind today c before. (_, _, record { leaves = answer (reportOutput kind today c (length before)) before });
   decode-answers = λ s b. (decoded s, is-decoded s b refl, decoded-numbered s);

@@ -3,9 +3,9 @@ use Prim.Native.Nat.{ℕ, _+_, _≤_, _<_}
 use mathlib.Core.Logic.{_⊎_, _↔_, inl, inr, ⊎-elim}
 use mathlib.Core.Path.{_≡_, refl, sym, ap, _∙_}
 use mathlib.Core.Bool.{true}
-use mathlib.Core.List.{List}
+use mathlib.Core.List.{List, []}
 use native.Mathlib.Omega.{arith}
-use lib.ListN.{length, take}
+use lib.ListN.{length, take, drop}
 use lib.Dec.{ltb}
 use borrow.Author.Tests.{le-ltb}
 use Rattle.laws.specs.Bytes.{Bytes}
@@ -18,53 +18,77 @@ use Rattle.fascn.specs.declared.Numbers.{Numbers}
 use Rattle.fascn.specs.declared.Decoded.{Decoded}
 use Rattle.fascn.proofs.Framing.{range-exact}
 use Rattle.fascn.proofs.Packing.{length-encoded}
-use Rattle.verdicts.specs.Verdicts.{numberOf, found, verdictOf}
+use Rattle.verdicts.specs.Verdicts.{numberOf, noTag, tagNumber, found, verdictOf}
 use Rattle.verdicts.specs.declared.Fault.{Fault}
-use Rattle.verdicts.specs.declared.Fault.the-variants.{SmallRoom}
+use Rattle.verdicts.specs.declared.Fault.the-variants.{SmallRoom, NoElement}
+use Rattle.verdicts.specs.declared.Tag.{Tag}
+use Rattle.verdicts.specs.declared.Tag.the-variants.{NoTag, Of}
+use Rattle.verdicts.specs.declared.Finding.{Finding}
 use Rattle.verdicts.specs.declared.Outcome.the-variants.{Broken}
 use Rattle.verdicts.specs.declared.Verdict.{Verdict}
 use Rattle.verdicts.specs.declared.Done.{Done}
-use Rattle.verdicts.proofs.Apart.{never-zero}
+use Rattle.verdicts.specs.Output.{Output, refusal, text, doneOf}
+use Rattle.verdicts.proofs.Apart.{never-zero, told-apart}
 use Rattle.kinds.specs.Tables.{table}
-use Rattle.container.specs.Container.{Values, Conforms}
+use Rattle.container.specs.Container.{Values, tagBytes, long, Conforms}
 use Rattle.container.specs.Reading.{Parsed, values, fault, parsed, outcomeOf, outcome, verdict}
 use Rattle.container.specs.InOrder.{Named}
 use Rattle.container.proofs.Named.{named-back, named-exact}
 use Rattle.container.proofs.Promise.{exact, exactly-when, unique, named}
+use Rattle.container.proofs.Tagged.{not-both, at-place, none-when}
 use Rattle.sheet.specs.Sheet.{sheetOf, IsSheet}
 use Rattle.sheet.specs.Calls.{Given, short, fits, Says, breaks, conforms}
 use Rattle.sheet.specs.declared.Checked.{Checked}
 use Rattle.sheet.proofs.Sheets.{conforming-sheet, conforming-some}
 use Rattle.sheet.proofs.Bound.{sheet-bound}
 use Rattle.writing.specs.Writing.{writeOutput}
+use Rattle.writing.specs.InOrder.{Refused}
 use Rattle.writing.proofs.Promise.{accepted, written-bytes, read-write}
+use Rattle.writing.proofs.Named.{refused-exact, row-tag}
 use Rattle.views.specs.Views.{View, viewed}
-use Rattle.views.proofs.Elements.{Shows, element-view, element-place, absent-view, foreign-view}
+use Rattle.views.proofs.Elements.{absentView, refused-view, Shows, element-view, element-place, absent-view, foreign-view}
 use Rattle.prosianek.specs.Calls.{Checks, Writes, Views}
 use Rattle.prosianek.proofs.Checking.{judged, given}
 use Rattle.prosianek.proofs.Decoding.{decoded-once, decoded-0}
 use Rattle.promises.specs.Demands.{Shown, Demand2}
-use Rattle.promises.proofs.Rooms.{text-of, gave}
+use Rattle.promises.proofs.Rooms.{text-of, refusal-of, gave}
 
 -- ---- the first broken rule
 
 pub first-named : (kind today : ℕ) (c : List ℕ) → Bytes c → (r : Verdict) → r ≡ verdict kind today c → (r .number ≡ 0 → ⊥)
-    → (f : Fault) × (r .number ≡ numberOf f) × Named kind today c (found f (r .place))
+    → (f : Fault) × (r .number ≡ numberOf f) × Named kind today c (found f (r .place) (r .tag))
 unfolding outcome
 first-named kind today c b r a n = go (parsed kind today c) refl
   where
-    go : (p : Parsed (List ℕ)) → parsed kind today c ≡ p → (f : Fault) × (r .number ≡ numberOf f) × Named kind today c (found f (r .place))
+    go : (p : Parsed (List ℕ)) → parsed kind today c ≡ p → (f : Fault) × (r .number ≡ numberOf f) × Named kind today c (found f (r .place) (r .tag))
     go (values vs) e = absurd (n (rw (a, e)))
     go (fault f) e =
         let q : r ≡ verdictOf (Broken f) = a ∙ ap (λ (x : Parsed (List ℕ)). verdictOf (outcomeOf x)) e in
         (f .fault, ap (λ (v : Verdict). v .number) q, rw q (named kind today c b f e))
 
-only-first : (kind today : ℕ) (c : List ℕ) → Bytes c → (r : Verdict) → r ≡ verdict kind today c → (f : Fault) (place : ℕ) → Named kind today c (found f place)
-    → (r .number ≡ numberOf f) × (r .place ≡ place)
+only-first : (kind today : ℕ) (c : List ℕ) → Bytes c → (r : Verdict) → r ≡ verdict kind today c → (f : Fault) (place : ℕ) (tag : Tag)
+    → Named kind today c (found f place tag) → (r .number ≡ numberOf f) × (r .place ≡ place) × (r .tag ≡ tag)
 unfolding outcome
-only-first kind today c b r a f place h =
-    let q : r ≡ record { number = numberOf f; place = place } = a ∙ ap (λ (x : Parsed (List ℕ)). verdictOf (outcomeOf x)) (named-back kind today (found f place) c b h) in
-    (ap (λ (v : Verdict). v .number) q, ap (λ (v : Verdict). v .place) q)
+only-first kind today c b r a f place tag h =
+    let q : r ≡ record { number = numberOf f; place = place; tag = tag } =
+    a ∙ ap (λ (x : Parsed (List ℕ)). verdictOf (outcomeOf x)) (named-back kind today (found f place tag) c b h) in
+    (ap (λ (v : Verdict). v .number) q, ap (λ (v : Verdict). v .place) q, ap (λ (v : Verdict). v .tag) q)
+
+-- ---- its tag
+
+-- none is told by a number that no tag has
+none-told : (g : Tag) → ((t : ℕ) → g ≡ Of t → t < 65536) → (tagNumber g ≡ noTag) ↔ (g ≡ NoTag)
+none-told NoTag h = (λ e. refl, λ e. refl)
+none-told (Of t) h = (λ e. absurd (told-apart t (h t refl) e), λ e. absurd (not-both (sym e)))
+
+module _ {kind today : ℕ} {c before after : List ℕ} {r : Checked} where
+  tag-at-place : Bytes c → Says kind today c before after r → (t : ℕ) → r .verdict .tag ≡ Of t → (take (long t) (drop (r .verdict .place) c) ≡ tagBytes t) × (t < 65536)
+  tag-at-place b (breaks f n a z) t e = rw a (at-place kind today c f b n t (rw a at e))
+  tag-at-place b (conforms vs k a g) t e = absurd (not-both (rw a at e))
+
+  no-tag-when : Says kind today c before after r → (r .verdict .tag ≡ NoTag) ↔ ((r .verdict .place ≡ 0) ⊎ (r .verdict .place ≡ length c))
+  no-tag-when (breaks f n a z) = rw a (none-when kind today c f n)
+  no-tag-when (conforms vs k a g) = rw a (λ e. inl refl, λ e. refl)
 
 -- ---- what stands beside the verdict
 
@@ -138,6 +162,23 @@ module _ (kind today : ℕ) where
     λ v. gave before (accepted kind today s (length before) b (v .1) .1 (v .0, v .2, v .3, v .4)) (h .leaves) .0,
   )
 
+  -- otherwise it is refused
+  write-named : (s before after : List ℕ) (r : Done) → Bytes s → Writes kind today s before after r → (r .number ≡ 0 → ⊥)
+      → (f : Finding) × (r ≡ doneOf (refusal f)) × Refused kind today s (length before) f
+  write-named s before after r b h z =
+      let (f, e, a) = refusal-of (writeOutput kind today s (length before)) before (h .leaves) z in
+      (f, a, refused-exact kind today s (length before) b f .0 e)
+
+  write-only : (s before after : List ℕ) (r : Done) → Bytes s → Writes kind today s before after r → (f : Finding) → Refused kind today s (length before) f → r ≡ doneOf (refusal f)
+  write-only s before after r b h f w = h .leaves .answer ∙ ap doneOf (refused-exact kind today s (length before) b f .1 w)
+
+  write-tag : (s before after : List ℕ) (r : Done) → Bytes s → Writes kind today s before after r → (t : ℕ) → r .tag ≡ Of t → t < 65536
+  write-tag s before after r b h t e = go (writeOutput kind today s (length before)) refl (h .leaves .answer)
+    where
+      go : (o : Output) → writeOutput kind today s (length before) ≡ o → r ≡ doneOf o → t < 65536
+      go (text u) q a = absurd (not-both (rw a at e))
+      go (refusal f) q a = row-tag kind today s (length before) f (refused-exact kind today s (length before) b f .0 q) t (rw a at e)
+
   there : (c before after : List ℕ) (r : Checked) → Bytes c → Checks kind today c before after r → r .verdict .number ≡ 0 → r .room ≡ 0
       → (before₂ after₂ : List ℕ) (r₂ : Done) → Writes kind today (take (r .length) after) before₂ after₂ r₂ → length c ≤ length before₂
       → (r₂ .number ≡ 0) × (take (r₂ .length) after₂ ≡ c)
@@ -161,18 +202,42 @@ module _ (kind today : ℕ) where
 
 -- ---- views
 
-shown : (kind today : ℕ) (c : List ℕ) (tag : ℕ) {v : List ℕ} {at : ℕ × ℕ} {number place : ℕ} {part : ℕ × ℕ} {bytes : List ℕ}
-    → Shows c v (viewed kind today c tag) → Views kind today c tag at number place part bytes → Shown c v at number place part bytes
-shown kind today c tag s a = record {
-  number-is = a .shows .number-is ∙ s .number;
-  place-is = a .shows .place-is ∙ s .place;
+shown : (kind today : ℕ) (c : List ℕ) (element : ℕ) {v : List ℕ} {at : ℕ × ℕ} {number place tag : ℕ} {part : ℕ × ℕ} {bytes : List ℕ}
+    → Shows c v (viewed kind today c element) → Views kind today c element at number place tag part bytes → Shown c v at number place tag part bytes
+shown kind today c element s a = record {
+  number-is = a .shows .number-is ∙ ap (λ (v : Verdict). v .number) (s .verdict);
+  place-is = a .shows .place-is ∙ ap (λ (v : Verdict). v .place) (s .verdict);
+  tag-is = a .shows .tag-is ∙ ap (λ (v : Verdict). tagNumber (v .tag)) (s .verdict);
   bytes-are = a .shows .bytes-are ∙ s .value;
-  offset = viewed kind today c tag .part .offset;
+  offset = viewed kind today c element .part .offset;
   block-is = a .shows .block-is;
   part-is = a .shows .offset-is;
   inside = s .inside;
   stands = s .stands;
 }
+
+-- what is absent
+absent : (kind today : ℕ) (c : List ℕ) (element : ℕ) {at : ℕ × ℕ} {number place tag : ℕ} {part : ℕ × ℕ} {bytes : List ℕ}
+    → viewed kind today c element ≡ absentView → Views kind today c element at number place tag part bytes → (number ≡ numberOf NoElement) × (tag ≡ noTag) × (bytes ≡ [])
+absent kind today c element w a = (
+  a .shows .number-is ∙ ap (λ (v : View). v .verdict .number) w,
+  a .shows .tag-is ∙ ap (λ (v : View). tagNumber (v .verdict .tag)) w,
+  a .shows .bytes-are ∙ ap (λ (v : View). v .part .bytes) w,
+)
+
+-- what the check refuses
+view-refused : (kind today : ℕ) (c : List ℕ) (v : Verdict) → v ≡ verdict kind today c → (v .number ≡ 0 → ⊥)
+    → (element : ℕ) (at : ℕ × ℕ) (number place tag : ℕ) (part : ℕ × ℕ) (bytes : List ℕ) → Views kind today c element at number place tag part bytes
+    → (number ≡ v .number) × (place ≡ v .place) × (tag ≡ tagNumber (v .tag)) × (part ≡ at) × (bytes ≡ [])
+view-refused kind today c v e n element at number place tag part bytes a =
+    let w = refused-view kind today c element (λ z. n (rw e z)) in
+    let z : at .1 + 0 ≡ at .1 = omega arith in (
+      a .shows .number-is ∙ rw (w, e),
+      a .shows .place-is ∙ rw (w, e),
+      a .shows .tag-is ∙ rw (w, e),
+      λ i. (a .shows .block-is i, (a .shows .offset-is ∙ ap (λ (x : View). at .1 + x .part .offset) w ∙ z) i),
+      a .shows .bytes-are ∙ rw w,
+    )
 
 -- ---- a FASC-N alone
 
@@ -200,10 +265,13 @@ demand-2 = record {
   only-one = unique;
   first-named = λ kind today c before after r b h. first-named kind today c b (r .verdict) (judged b h .answer);
   only-first = λ kind today c before after r b h. only-first kind today c b (r .verdict) (judged b h .answer);
+  tag-at-place = λ kind today c before after r b h t e. tag-at-place b (h .says) t e .0;
+  no-tag-when = λ kind today c before after r h. no-tag-when (h .says);
+  tag-is-none = λ kind today c before after r b h. none-told (r .verdict .tag) (λ t e. tag-at-place b (h .says) t e .1);
   judged = λ kind today c before after r b h. judged b h;
   any-room = λ kind today c before₁ before₂ after₁ after₂ r₁ r₂ b h k. judged b h .answer ∙ sym (judged b k .answer);
   parsed-values = exact;
-  parsed-fault = λ kind today c b f place. named-exact kind today c b (found f place);
+  parsed-fault = named-exact;
   room-3 = λ kind today c before after r b h. room-3 b h;
   room-0-or-3 = λ kind today c before after r h. room-0-or-3 (h .says);
   empty-room = λ kind today c after r b h z.
@@ -215,18 +283,18 @@ demand-2 = record {
       (vs, f, rw t (conforming-sheet kind today vs c f));
   write-values = writes;
   accepted-when = accepts;
+  write-first-named = write-named;
+  write-only-first = write-only;
+  write-tag-is-none = λ kind today s before after r b h. none-told (r .tag) (write-tag kind today s before after r b h);
   room-for-sheet = λ kind today c before after r h. room-for-sheet (h .says);
   read-then-write = there;
   write-then-read = back;
-  view-value = λ kind today c b vs h i t o e v q at number place part bytes a. shown kind today c t (element-view kind today c b vs h i e v q) a;
-  view-place = λ kind today c b vs h i t o e v q at number place part bytes a.
+  view-refused = λ kind today c v j. view-refused kind today c v (j .answer);
+  view-value = λ kind today c b vs h i t o e v q at number place tag part bytes a. shown kind today c t (element-view kind today c b vs h i e v q) a;
+  view-place = λ kind today c b vs h i t o e v q at number place tag part bytes a.
       a .shows .offset-is ∙ ap (λ (n : ℕ). at .1 + n) (element-place kind today c b vs h i e v q);
-  view-absent = λ kind today c b vs h i t o e q at number place part bytes a.
-      let w = absent-view kind today c b vs h i e q in
-      (a .shows .number-is ∙ ap (λ (v : View). v .number) w, a .shows .bytes-are ∙ ap (λ (v : View). v .part .bytes) w);
-  view-foreign = λ kind today c b vs h t n at number place part bytes a.
-      let w = foreign-view kind today c b vs h t n in
-      (a .shows .number-is ∙ ap (λ (v : View). v .number) w, a .shows .bytes-are ∙ ap (λ (v : View). v .part .bytes) w);
+  view-absent = λ kind today c b vs h i t o e q at number place tag part bytes. absent kind today c t (absent-view kind today c b vs h i e q);
+  view-foreign = λ kind today c b vs h t n at number place tag part bytes. absent kind today c t (foreign-view kind today c b vs h t n);
   decodes-when = λ s r d. (λ z. (r .numbers, decoded-0 s d z), λ f. ap (λ (x : Decoded). x .number) (decoded-once s d (record { answer = inl (f .0, f .1, refl) })));
   encode-then-decode = λ n before after h r d.
       let e = encoded-0 n before after (h .leaves) in

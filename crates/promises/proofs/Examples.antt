@@ -13,6 +13,7 @@ use Rattle.laws.specs.Bytes.{Bytes}
 use Rattle.laws.specs.Digits.{digits}
 use Rattle.laws.specs.Tests.{each, same}
 use Rattle.laws.proofs.Cases.{and-true, all-true, same-eq}
+use Rattle.laws.proofs.Rooms.{filled-none}
 use Rattle.fascn.specs.Fascn.{exclusive, values, checked, characters, encoded, inRange}
 use Rattle.fascn.specs.Reading.{valuesOf, framed, decoded, isFascn}
 use Rattle.fascn.proofs.Framing.{range-exact}
@@ -28,13 +29,17 @@ use Rattle.plain.specs.Plain.{isUuid, isPolicy, isText, ended, isCreator}
 use Rattle.minutiae.specs.Judged.{pointHolds, pointsHold, viewHead, extent, recordHead, isMinutiae}
 use Rattle.der.specs.Length.{readLength as readDer}
 use Rattle.der.specs.Walk.{headOf, items, judged as walked, certificate}
+use Rattle.verdicts.specs.Output.{bytesOf, doneOf, Leaves}
+use Rattle.verdicts.specs.declared.Tag.{Tag}
+use Rattle.verdicts.specs.declared.Tag.the-variants.{NoTag, Of}
 use Rattle.rules.specs.Rules.{ruleOf}
 use Rattle.container.specs.Reading.{element, located, parsed, outcome, verdict}
 use Rattle.container.proofs.Promise.{exactly-when}
 use Rattle.sheet.specs.Sheet.{sheetOf}
 use Rattle.sheet.specs.declared.Checked.{Checked}
+use Rattle.writing.specs.Writing.{writeOutput}
 use Rattle.prosianek.proofs.Checking.{answer, output, only}
-use Rattle.promises.specs.Examples.{Example, fascn-of, no-fascn, spells, no-length, date, no-date, kept, late, conforms, breaks, checks, today, Holds, All, examples}
+use Rattle.promises.specs.Examples.{Example, fascn-of, no-fascn, spells, no-length, date, no-date, kept, late, conforms, breaks, checks, refuses, today, Holds, All, examples}
 use Rattle.promises.proofs.Demand2.{first-named}
 
 -- ---- each row as a test
@@ -46,6 +51,12 @@ isNone : Option Spelt → Bool
 isNone none = true
 isNone (some l) = false
 
+sameTag : Tag → Tag → Bool
+sameTag NoTag NoTag = true
+sameTag NoTag (Of u) = false
+sameTag (Of t) NoTag = false
+sameTag (Of t) (Of u) = eqb t u
+
 tested : Example → Bool
 tested (fascn-of s n) = inRange n && same s (encoded n)
 tested (no-fascn s) = areBytes s && not (isFascn s)
@@ -56,12 +67,18 @@ tested (no-date n) = not (isDate n)
 tested (kept t e) = inWindow t e
 tested (late t e) = not (inWindow t e)
 tested (conforms kind c) = areBytes c && eqb (verdict kind today c .number) 0
-tested (breaks kind c number place) =
-    areBytes c && not (eqb number 0) && eqb (verdict kind today c .number) number && eqb (verdict kind today c .place) place
-tested (checks kind c room number place three sheet) =
+tested (breaks kind c number place tag) =
+    let v = verdict kind today c in
+    areBytes c && not (eqb number 0) && eqb (v .number) number && eqb (v .place) place && sameTag (v .tag) tag
+tested (checks kind c room number place tag three sheet) =
     let p = parsed kind today c in
     let a = answer p room in
-    areBytes c && eqb (a .verdict .number) number && eqb (a .verdict .place) place && eqb (a .room) three && eqb (a .length) (length sheet) && same (output p room) sheet
+    areBytes c && eqb (a .verdict .number) number && eqb (a .verdict .place) place && sameTag (a .verdict .tag) tag && eqb (a .room) three && eqb (a .length) (length sheet)
+    && same (output p room) sheet
+tested (refuses kind s room number place tag) =
+    let o = writeOutput kind today s room in
+    let d = doneOf o in
+    eqb (d .number) number && eqb (d .place) place && sameTag (d .tag) tag && eqb (d .length) 0 && same (bytesOf o) []
 
 allTested : List Example → Bool
 allTested [] = true
@@ -79,25 +96,49 @@ fails : (b : Bool) {P : Type 0} → (b ≡ true) ↔ P → not b ≡ true → P 
 fails true h n p = let z : false ≡ true = n in absurd (true≢false (sym z))
 fails false h n p = true≢false (sym (h .1 p))
 
-breaks-so : (kind : ℕ) (c : List ℕ) → Bytes c → (number place : ℕ) → (number ≡ 0 → ⊥) → verdict kind today c .number ≡ number → verdict kind today c .place ≡ place
-    → Holds (breaks kind c number place)
-breaks-so kind c b number place z n p =
+same-tag : (g h : Tag) → sameTag g h ≡ true → g ≡ h
+unfolding sameTag
+same-tag NoTag NoTag e = refl
+same-tag NoTag (Of u) e = absurd (true≢false (sym e))
+same-tag (Of t) NoTag e = absurd (true≢false (sym e))
+same-tag (Of t) (Of u) e = ap Of (eqb-true t u e)
+
+breaks-so : (kind : ℕ) (c : List ℕ) → Bytes c → (number place : ℕ) (tag : Tag) → (number ≡ 0 → ⊥) → verdict kind today c .number ≡ number → verdict kind today c .place ≡ place
+    → verdict kind today c .tag ≡ tag → Holds (breaks kind c number place tag)
+breaks-so kind c b number place tag z n p g =
     let (f, e, h) = first-named kind today c b (verdict kind today c) refl (λ q. z (sym n ∙ q)) in
-    (f, sym n ∙ e, rw p at h)
+    (f, sym n ∙ e, rw (p, g) at h)
 
-by-numbers : (a : Checked) {n p m l : ℕ} → a .verdict .number ≡ n → a .verdict .place ≡ p → a .room ≡ m → a .length ≡ l
-    → a ≡ record { verdict = record { number = n; place = p }; room = m; length = l }
-by-numbers a n p m l = λ i. record { verdict = record { number = n i; place = p i }; room = m i; length = l i }
+by-numbers : (a : Checked) {n p m l : ℕ} {g : Tag} → a .verdict .number ≡ n → a .verdict .place ≡ p → a .verdict .tag ≡ g → a .room ≡ m → a .length ≡ l
+    → a ≡ record { verdict = record { number = n; place = p; tag = g }; room = m; length = l }
+by-numbers a n p g m l = λ i. record { verdict = record { number = n i; place = p i; tag = g i }; room = m i; length = l i }
 
-checks-so : (kind : ℕ) (c : List ℕ) (room number place three : ℕ) (sheet : List ℕ) → tested (checks kind c room number place three sheet) ≡ true
-    → Holds (checks kind c room number place three sheet)
+checks-so : (kind : ℕ) (c : List ℕ) (room number place : ℕ) (tag : Tag) (three : ℕ) (sheet : List ℕ) → tested (checks kind c room number place tag three sheet) ≡ true
+    → Holds (checks kind c room number place tag three sheet)
 unfolding tested
-checks-so kind c room number place three sheet t before after r q h =
+checks-so kind c room number place tag three sheet t before after r q h =
     let p = parsed kind today c in
     let a = answer p room in
-    let d = all-true (areBytes c ∷ eqb (a .verdict .number) number ∷ eqb (a .verdict .place) place ∷ eqb (a .room) three ∷ eqb (a .length) (length sheet) ∷ same (output p room) sheet ∷ []) t in
+    let d =
+    all-true
+    (areBytes c ∷ eqb (a .verdict .number) number ∷ eqb (a .verdict .place) place ∷ sameTag (a .verdict .tag) tag ∷ eqb (a .room) three ∷ eqb (a .length) (length sheet)
+    ∷ same (output p room) sheet ∷ [])
+    t in
     let (x, z) = rw q at (only (are-bytes c (d 0)) h) in
-    (x ∙ by-numbers a (eqb-true _ _ (d 1)) (eqb-true _ _ (d 2)) (eqb-true _ _ (d 3)) (eqb-true _ _ (d 4)), z ∙ rw (same-eq (output p room) sheet (d 5)))
+    (x ∙ by-numbers a (eqb-true _ _ (d 1)) (eqb-true _ _ (d 2)) (same-tag _ _ (d 3)) (eqb-true _ _ (d 4)) (eqb-true _ _ (d 5)), z ∙ rw (same-eq (output p room) sheet (d 6)))
+
+refuses-so : (kind : ℕ) (s : List ℕ) (room number place : ℕ) (tag : Tag) → tested (refuses kind s room number place tag) ≡ true → Holds (refuses kind s room number place tag)
+unfolding tested
+refuses-so kind s room number place tag t before after r q h =
+    let o = writeOutput kind today s room in
+    let v = doneOf o in
+    let d = all-true (eqb (v .number) number ∷ eqb (v .place) place ∷ sameTag (v .tag) tag ∷ eqb (v .length) 0 ∷ same (bytesOf o) [] ∷ []) t in
+    let n = eqb-true _ _ (d 0) in
+    let p = eqb-true _ _ (d 1) in
+    let g = same-tag _ _ (d 2) in
+    let l = eqb-true _ _ (d 3) in
+    let w : Leaves o before after r = rw q at (h .leaves) in
+    (w .answer ∙ (λ i. record { number = n i; place = p i; tag = g i; length = l i }), w .room ∙ rw (q, same-eq (bytesOf o) [] (d 4)) (sym (filled-none room)))
 
 so : (e : Example) → tested e ≡ true → Holds e
 unfolding tested isNone
@@ -113,10 +154,12 @@ so (no-date n) t = fails (isDate n) (date-exact n) t
 so (kept t e) h = window-exact t e .0 h
 so (late t e) h = fails (inWindow t e) (window-exact t e) h
 so (conforms kind c) t = let b = and-true (areBytes c) (eqb (verdict kind today c .number) 0) t in exactly-when kind today c (are-bytes c (b .0)) .0 (eqb-true _ 0 (b .1))
-so (breaks kind c number place) t =
-    let d = all-true (areBytes c ∷ not (eqb number 0) ∷ eqb (verdict kind today c .number) number ∷ eqb (verdict kind today c .place) place ∷ []) t in
-    breaks-so kind c (are-bytes c (d 0)) number place (fails (eqb number 0) (eqb-true number 0, eq-eqb number 0) (d 1)) (eqb-true _ _ (d 2)) (eqb-true _ _ (d 3))
-so (checks kind c room number place three sheet) t = checks-so kind c room number place three sheet t
+so (breaks kind c number place tag) t =
+    let v = verdict kind today c in
+    let d = all-true (areBytes c ∷ not (eqb number 0) ∷ eqb (v .number) number ∷ eqb (v .place) place ∷ sameTag (v .tag) tag ∷ []) t in
+    breaks-so kind c (are-bytes c (d 0)) number place tag (fails (eqb number 0) (eqb-true number 0, eq-eqb number 0) (d 1)) (eqb-true _ _ (d 2)) (eqb-true _ _ (d 3)) (same-tag _ _ (d 4))
+so (checks kind c room number place tag three sheet) t = checks-so kind c room number place tag three sheet t
+so (refuses kind s room number place tag) t = refuses-so kind s room number place tag t
 
 all-so : (es : List Example) → allTested es ≡ true → All es
 unfolding allTested
@@ -124,7 +167,7 @@ all-so [] t = tt
 all-so (e ∷ es) t = let c = and-true (tested e) (allTested es) t in (so e (c .0), all-so es (c .1))
 
 all-tested : allTested examples ≡ true
-unfolding allTested tested areBytes isNone examples ones digits exclusive values checked characters encoded valuesOf framed decoded isFascn lengthBytes readLength daysIn exists isDate dateOf isMoment isUuid isPolicy isText ended isCreator pointHolds pointsHold viewHead extent recordHead isMinutiae readDer headOf items walked certificate ruleOf element located parsed outcome sheetOf
+unfolding allTested tested areBytes isNone sameTag examples ones digits exclusive values checked characters encoded valuesOf framed decoded isFascn lengthBytes readLength daysIn exists isDate dateOf isMoment isUuid isPolicy isText ended isCreator pointHolds pointsHold viewHead extent recordHead isMinutiae readDer headOf items walked certificate ruleOf element located parsed outcome sheetOf writeOutput
 all-tested = refl
 
 pub examples-hold : All examples

@@ -6,6 +6,8 @@ use lib.ListN.{length}
 use Rattle.laws.proofs.Layouts.{by-entries}
 use Rattle.fascn.specs.declared.Numbers.{Numbers}
 use Rattle.fascn.specs.declared.Decoded.{Decoded}
+use Rattle.verdicts.specs.Verdicts.{tagNumber}
+use Rattle.verdicts.specs.declared.Tag.{Tag}
 use Rattle.verdicts.specs.declared.Done.{Done}
 use Rattle.verdicts.proofs.Outputs.{settled as settled-output}
 use Rattle.sheet.specs.declared.Checked.{Checked}
@@ -21,9 +23,10 @@ settled = record {
       let (e, w) = only b y in
       (a ∙ rw h (sym e), z ∙ rw h (sym w));
   one-write = λ kind today s before₁ before₂ after₁ after₂ r₁ r₂ h a b. settled-output _ before₁ before₂ h (a .leaves) (rw h (b .leaves));
-  one-view = λ kind today c tag at n₁ n₂ p₁ p₂ part₁ part₂ bytes₁ bytes₂ a b. (
+  one-view = λ kind today c element at n₁ n₂ p₁ p₂ t₁ t₂ part₁ part₂ bytes₁ bytes₂ a b. (
     a .shows .number-is ∙ sym (b .shows .number-is),
     a .shows .place-is ∙ sym (b .shows .place-is),
+    a .shows .tag-is ∙ sym (b .shows .tag-is),
     λ i. ((a .shows .block-is ∙ sym (b .shows .block-is)) i, (a .shows .offset-is ∙ sym (b .shows .offset-is)) i),
     a .shows .bytes-are ∙ sym (b .shows .bytes-are),
   );
@@ -37,9 +40,9 @@ settled = record {
 
 -- ---- the functions for C
 
-number-of : {n₁ n₂ p₁ p₂ l₁ l₂ : ℕ} → _≡_ {A = Done} (record { number = n₁; place = p₁; length = l₁ }) (record { number = n₂; place = p₂; length = l₂ })
-    → (n₁ ≡ n₂) × (p₁ ≡ p₂) × (l₁ ≡ l₂)
-number-of e = (ap (λ (d : Done). d .number) e, ap (λ (d : Done). d .place) e, ap (λ (d : Done). d .length) e)
+-- two numbers that tell one tag
+same-tag : {t₁ t₂ : ℕ} {g h : Tag} → t₁ ≡ tagNumber g → t₂ ≡ tagNumber h → g ≡ h → t₁ ≡ t₂
+same-tag p q e = p ∙ ap tagNumber e ∙ sym q
 
 -- nine numbers are the list that they were taken from
 entriesOf : Numbers → List ℕ
@@ -51,19 +54,33 @@ nine-of l m h k e = by-entries 9 l h ∙ ap entriesOf e ∙ sym (by-entries 9 m 
 
 pub settled-for-c : SettledForC
 settled-for-c = record {
-  one-check = λ kind today c before₁ before₂ after₁ after₂ n₁ n₂ p₁ p₂ m₁ m₂ l₁ l₂ y h a b.
-      let (e, f) = settled .one-check kind today c before₁ before₂ after₁ after₂ _ _ y h (a .answers) (b .answers) in
-      (ap (λ (r : Checked). r .verdict .number) e, ap (λ (r : Checked). r .verdict .place) e, ap (λ (r : Checked). r .room) e, ap (λ (r : Checked). r .length) e, f);
-  one-write = λ kind today s before₁ before₂ after₁ after₂ n₁ n₂ p₁ p₂ l₁ l₂ h a b.
-      let e = settled .one-write kind today s before₁ before₂ after₁ after₂ _ _ h (a .answers) (b .answers) in
-      let d = number-of (e .0) in
-      (d .0, d .1, d .2, e .1);
-  one-view = λ kind today c tag n₁ n₂ p₁ p₂ o₁ o₂ l₁ l₂ a b.
-      (a .number-is ∙ sym (b .number-is), a .place-is ∙ sym (b .place-is), a .offset-is ∙ sym (b .offset-is), a .size-is ∙ sym (b .size-is));
+  one-check = λ kind today c before₁ before₂ after₁ after₂ n₁ n₂ p₁ p₂ t₁ t₂ m₁ m₂ l₁ l₂ y h a b.
+      let (e, f) = settled .one-check kind today c before₁ before₂ after₁ after₂ _ _ y h (a .answers) (b .answers) in (
+        ap (λ (r : Checked). r .verdict .number) e,
+        ap (λ (r : Checked). r .verdict .place) e,
+        same-tag (a .tag-is) (b .tag-is) (ap (λ (r : Checked). r .verdict .tag) e),
+        ap (λ (r : Checked). r .room) e,
+        ap (λ (r : Checked). r .length) e,
+        f,
+      );
+  one-write = λ kind today s before₁ before₂ after₁ after₂ n₁ n₂ p₁ p₂ t₁ t₂ l₁ l₂ h a b.
+      let (e, f) = settled .one-write kind today s before₁ before₂ after₁ after₂ _ _ h (a .answers) (b .answers) in (
+        ap (λ (d : Done). d .number) e,
+        ap (λ (d : Done). d .place) e,
+        same-tag (a .tag-is) (b .tag-is) (ap (λ (d : Done). d .tag) e),
+        ap (λ (d : Done). d .length) e,
+        f,
+      );
+  one-view = λ kind today c element n₁ n₂ p₁ p₂ t₁ t₂ o₁ o₂ l₁ l₂ a b. (
+    a .number-is ∙ sym (b .number-is),
+    a .place-is ∙ sym (b .place-is),
+    a .tag-is ∙ sym (b .tag-is),
+    a .offset-is ∙ sym (b .offset-is),
+    a .size-is ∙ sym (b .size-is),
+  );
   one-report = λ kind today c before₁ before₂ after₁ after₂ n₁ n₂ l₁ l₂ h a b.
-      let e = settled .one-report kind today c before₁ before₂ after₁ after₂ _ _ h (a .answers) (b .answers) in
-      let d = number-of (e .0) in
-      (d .0, d .2, e .1);
+      let (e, f) = settled .one-report kind today c before₁ before₂ after₁ after₂ _ _ h (a .answers) (b .answers) in
+      (ap (λ (d : Done). d .number) e, ap (λ (d : Done). d .length) e, f);
   one-decode = λ s n₁ n₂ nine₁ nine₂ x y.
       let e = decoded-once s (x .answers) (y .answers) in
       (ap (λ (d : Decoded). d .number) e, nine-of nine₁ nine₂ (x .nine) (y .nine) (ap (λ (d : Decoded). d .numbers) e));

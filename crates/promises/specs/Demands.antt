@@ -19,14 +19,18 @@ use Rattle.fascn.specs.Fascn.{IsFascnOf, IsFascn}
 use Rattle.fascn.specs.Calls.{noNumbers}
 use Rattle.fascn.specs.declared.Numbers.{Numbers}
 use Rattle.fascn.specs.declared.Decoded.{Decoded}
-use Rattle.verdicts.specs.Verdicts.{numberOf, found}
+use Rattle.verdicts.specs.Verdicts.{numberOf, noTag, tagNumber, found}
+use Rattle.verdicts.specs.Output.{refusal, doneOf}
 use Rattle.verdicts.specs.declared.Fault.{Fault}
 use Rattle.verdicts.specs.declared.Fault.the-variants.{UnknownKind, NoDate, SmallRoom, LargeContainer, NoElement, BadFascn}
+use Rattle.verdicts.specs.declared.Tag.{Tag}
+use Rattle.verdicts.specs.declared.Tag.the-variants.{NoTag, Of}
+use Rattle.verdicts.specs.declared.Finding.{Finding}
 use Rattle.verdicts.specs.declared.Verdict.{Verdict}
 use Rattle.verdicts.specs.declared.Done.{Done}
 use Rattle.kinds.specs.Tables.{table, IsKind, rowAt}
 use Rattle.kinds.specs.declared.Slot.the-variants.{Holds}
-use Rattle.container.specs.Container.{Values, Conforms, largest}
+use Rattle.container.specs.Container.{Values, tagBytes, long, Conforms, largest}
 use Rattle.container.specs.Reading.{values, fault, parsed}
 use Rattle.container.specs.InOrder.{Named}
 use Rattle.sheet.specs.Sheet.{sheetOf, IsSheet}
@@ -34,6 +38,7 @@ use Rattle.sheet.specs.declared.Checked.{Checked}
 use Rattle.elements.specs.Elements.{shape}
 use Rattle.opens.specs.Open.{agencyOf, systemOf, openOf}
 use Rattle.report.specs.Report.{reportText}
+use Rattle.writing.specs.InOrder.{Refused}
 use Rattle.views.specs.Views.{placeOf}
 use Rattle.prosianek.specs.Calls.{Judges, Checks, Writes, Views, Reports, Decodes, Encodes}
 use Rattle.printout.specs.Printout.{refusedText, printed, kindText, Asks}
@@ -60,8 +65,8 @@ pub record Demand1 : Type 0 where
   -- there is an answer, whatever is given and whatever a room held
   pub check-answers : (kind today : ℕ) (c before : List ℕ) → Bytes c → (after : List ℕ) × (r : Checked) × Checks kind today c before after r
   pub write-answers : (kind today : ℕ) (s before : List ℕ) → (after : List ℕ) × (r : Done) × Writes kind today s before after r
-  pub view-answers : (kind today : ℕ) (c : List ℕ) (tag : ℕ) (at : ℕ × ℕ)
-      → (number place : ℕ) × (part : ℕ × ℕ) × (bytes : List ℕ) × Views kind today c tag at number place part bytes × Numbered number
+  pub view-answers : (kind today : ℕ) (c : List ℕ) (element : ℕ) (at : ℕ × ℕ)
+      → (number place tag : ℕ) × (part : ℕ × ℕ) × (bytes : List ℕ) × Views kind today c element at number place tag part bytes × Numbered number
   pub report-answers : (kind today : ℕ) (c before : List ℕ) → (after : List ℕ) × (r : Done) × Reports kind today c before after r
   pub decode-answers : (s : List ℕ) → Bytes s → (r : Decoded) × Decodes s r × Numbered (r .number)
   pub encode-answers : (n : Numbers) (before : List ℕ) → (after : List ℕ) × (number : ℕ) × Encodes n before after number
@@ -79,10 +84,11 @@ pub record Demand1 : Type 0 where
 -- otherwise the first broken rule and its place are named. Writing the values that were read gives the container back byte for byte, and reading what was
 -- written gives the values back."
 
--- a view that shows the value v of the container c, which stands at `at`: 0, the bytes, and where they stand
-pub record Shown (c v : List ℕ) (at : ℕ × ℕ) (number place : ℕ) (part : ℕ × ℕ) (bytes : List ℕ) : Type 0 where
+-- a view that shows the value v of the container c, which stands at `at`: 0 and no tag, the bytes, and where they stand
+pub record Shown (c v : List ℕ) (at : ℕ × ℕ) (number place tag : ℕ) (part : ℕ × ℕ) (bytes : List ℕ) : Type 0 where
   pub number-is : number ≡ 0
   pub place-is : place ≡ 0
+  pub tag-is : tag ≡ noTag
   pub bytes-are : bytes ≡ v
   pub offset : ℕ
   pub block-is : part .0 ≡ at .0
@@ -95,19 +101,28 @@ pub record Demand2 : Type 0 where
   pub exactly-when : (kind today : ℕ) (c before after : List ℕ) (r : Checked) → Bytes c → Checks kind today c before after r
       → (r .verdict .number ≡ 0) ↔ ((vs : Values) × Conforms kind today vs c)
   pub only-one : (kind today : ℕ) (c : List ℕ) → Bytes c → (vs ws : Values) → Conforms kind today vs c → Conforms kind today ws c → vs ≡ ws
-  -- "otherwise the first broken rule and its place are named"
+  -- "otherwise the first broken rule and its place are named", 2026-02: with "the element's tag"
   pub first-named : (kind today : ℕ) (c before after : List ℕ) (r : Checked) → Bytes c → Checks kind today c before after r → (r .verdict .number ≡ 0 → ⊥)
-      → (f : Fault) × (r .verdict .number ≡ numberOf f) × Named kind today c (found f (r .verdict .place))
-  -- and nothing else can be named: where a rule is the first that is broken, the verdict is its number and its place
-  pub only-first : (kind today : ℕ) (c before after : List ℕ) (r : Checked) → Bytes c → Checks kind today c before after r → (f : Fault) (place : ℕ)
-      → Named kind today c (found f place) → (r .verdict .number ≡ numberOf f) × (r .verdict .place ≡ place)
+      → (f : Fault) × (r .verdict .number ≡ numberOf f) × Named kind today c (found f (r .verdict .place) (r .verdict .tag))
+  -- and nothing else can be named: where a rule is the first that is broken, the verdict is its number, its place and its tag
+  pub only-first : (kind today : ℕ) (c before after : List ℕ) (r : Checked) → Bytes c → Checks kind today c before after r → (f : Fault) (place : ℕ) (tag : Tag)
+      → Named kind today c (found f place tag) → (r .verdict .number ≡ numberOf f) × (r .verdict .place ≡ place) × (r .verdict .tag ≡ tag)
+  -- the tag is the one at the place: the bytes there begin with its bytes
+  pub tag-at-place : (kind today : ℕ) (c before after : List ℕ) (r : Checked) → Bytes c → Checks kind today c before after r → (t : ℕ) → r .verdict .tag ≡ Of t
+      → take (long t) (drop (r .verdict .place) c) ≡ tagBytes t
+  -- "`--` for 0, for outer faults, for a row missing at the end and for numbers that carry no place": exactly where the place is 0 or the container's end
+  pub no-tag-when : (kind today : ℕ) (c before after : List ℕ) (r : Checked) → Checks kind today c before after r
+      → (r .verdict .tag ≡ NoTag) ↔ ((r .verdict .place ≡ 0) ⊎ (r .verdict .place ≡ length c))
+  -- none is no number that a tag can be: so where a tag is told by its number, none can be told from every tag, from a byte 00 too
+  pub tag-is-none : (kind today : ℕ) (c before after : List ℕ) (r : Checked) → Bytes c → Checks kind today c before after r
+      → (tagNumber (r .verdict .tag) ≡ noTag) ↔ (r .verdict .tag ≡ NoTag)
   -- it is the verdict of the bytes, of which demand 3 speaks; it does not depend on the room: with any two it is the same
   pub judged : (kind today : ℕ) (c before after : List ℕ) (r : Checked) → Bytes c → Checks kind today c before after r → Judges kind today c (r .verdict)
   pub any-room : (kind today : ℕ) (c before₁ before₂ after₁ after₂ : List ℕ) (r₁ r₂ : Checked) → Bytes c
       → Checks kind today c before₁ after₁ r₁ → Checks kind today c before₂ after₂ r₂ → r₁ .verdict ≡ r₂ .verdict
   -- what is read of some bytes, from which sheets, views and reports are made: their values, exactly where they conform, or else the first broken rule
   pub parsed-values : (kind today : ℕ) (c : List ℕ) → Bytes c → (vs : Values) → (parsed kind today c ≡ values vs) ↔ Conforms kind today vs c
-  pub parsed-fault : (kind today : ℕ) (c : List ℕ) → Bytes c → (f : Fault) (place : ℕ) → (parsed kind today c ≡ fault (found f place)) ↔ Named kind today c (found f place)
+  pub parsed-fault : (kind today : ℕ) (c : List ℕ) → Bytes c → (f : Finding) → (parsed kind today c ≡ fault f) ↔ Named kind today c f
   -- "3 for room is a field beside a verdict of 0 only": it is 3 exactly where the container conforms and the room is under the sheet's length, else 0
   pub room-3 : (kind today : ℕ) (c before after : List ℕ) (r : Checked) → Bytes c → Checks kind today c before after r
       → (r .room ≡ numberOf SmallRoom) ↔ ((vs : Values) × Conforms kind today vs c × (length before < length (sheetOf vs)))
@@ -125,6 +140,13 @@ pub record Demand2 : Type 0 where
   -- a sheet is accepted exactly when it holds allowed values whose container fits the room
   pub accepted-when : (kind today : ℕ) (s before after : List ℕ) (r : Done) → Bytes s → Writes kind today s before after r
       → (r .number ≡ 0) ↔ ((vs : Values) × (c : List ℕ) × IsSheet (table kind) vs s × Conforms kind today vs c × (length c ≤ length before))
+  -- otherwise the first rule that it breaks is named, with its place and its row's tag, and nothing else can be: "a written sheet's verdict names the row's tag"
+  pub write-first-named : (kind today : ℕ) (s before after : List ℕ) (r : Done) → Bytes s → Writes kind today s before after r → (r .number ≡ 0 → ⊥)
+      → (f : Finding) × (r ≡ doneOf (refusal f)) × Refused kind today s (length before) f
+  pub write-only-first : (kind today : ℕ) (s before after : List ℕ) (r : Done) → Bytes s → Writes kind today s before after r → (f : Finding)
+      → Refused kind today s (length before) f → r ≡ doneOf (refusal f)
+  pub write-tag-is-none : (kind today : ℕ) (s before after : List ℕ) (r : Done) → Bytes s → Writes kind today s before after r
+      → (tagNumber (r .tag) ≡ noTag) ↔ (r .tag ≡ NoTag)
   -- a room with six bytes more than the container takes its sheet, and so one of 32,774 takes any
   pub room-for-sheet : (kind today : ℕ) (c before after : List ℕ) (r : Checked) → Checks kind today c before after r → length c + 6 ≤ length before → r .room ≡ 0
   -- "Writing the values that were read gives the container back byte for byte"
@@ -135,20 +157,24 @@ pub record Demand2 : Type 0 where
   pub write-then-read : (kind today : ℕ) (s before after : List ℕ) (r : Done) → Bytes s → Writes kind today s before after r → r .number ≡ 0
       → (before₂ after₂ : List ℕ) (r₂ : Checked) → Checks kind today (take (r .length) after) before₂ after₂ r₂
       → (r₂ .verdict .number ≡ 0) × (length s ≤ length before₂ → (r₂ .room ≡ 0) × (take (r₂ .length) after₂ ≡ s))
-  -- a view of a row, whose tag is t, shows the row's value where it stands; 6 and no bytes for an absent row and for a tag of no row
+  -- "View: check, then 6": what the check refuses the view refuses, with its number, its place and its tag
+  pub view-refused : (kind today : ℕ) (c : List ℕ) (v : Verdict) → Judges kind today c v → (v .number ≡ 0 → ⊥)
+      → (element : ℕ) (at : ℕ × ℕ) (number place tag : ℕ) (part : ℕ × ℕ) (bytes : List ℕ) → Views kind today c element at number place tag part bytes
+      → (number ≡ v .number) × (place ≡ v .place) × (tag ≡ tagNumber (v .tag)) × (part ≡ at) × (bytes ≡ [])
+  -- a view of a row, whose tag is t, shows the row's value where it stands; 6, no tag and no bytes for an absent row and for a tag of no row
   pub view-value : (kind today : ℕ) (c : List ℕ) → Bytes c → (vs : Values) → Conforms kind today vs c → (i t : ℕ) (o : Bool) → rowAt kind i ≡ Holds t o
-      → (v : List ℕ) → getD vs i none ≡ some v → (at : ℕ × ℕ) (number place : ℕ) (part : ℕ × ℕ) (bytes : List ℕ) → Views kind today c t at number place part bytes
-      → Shown c v at number place part bytes
+      → (v : List ℕ) → getD vs i none ≡ some v → (at : ℕ × ℕ) (number place tag : ℕ) (part : ℕ × ℕ) (bytes : List ℕ) → Views kind today c t at number place tag part bytes
+      → Shown c v at number place tag part bytes
   -- "its place and length are fixed": it starts behind the outer tag and length, the elements of the rows before it, and its own tag and length
   pub view-place : (kind today : ℕ) (c : List ℕ) → Bytes c → (vs : Values) → Conforms kind today vs c → (i t : ℕ) (o : Bool) → rowAt kind i ≡ Holds t o
       → (v : List ℕ) → getD vs i none ≡ some v
-      → (at : ℕ × ℕ) (number place : ℕ) (part : ℕ × ℕ) (bytes : List ℕ) → Views kind today c t at number place part bytes → part .1 ≡ at .1 + placeOf kind vs i t v
+      → (at : ℕ × ℕ) (number place tag : ℕ) (part : ℕ × ℕ) (bytes : List ℕ) → Views kind today c t at number place tag part bytes → part .1 ≡ at .1 + placeOf kind vs i t v
   pub view-absent : (kind today : ℕ) (c : List ℕ) → Bytes c → (vs : Values) → Conforms kind today vs c → (i t : ℕ) (o : Bool) → rowAt kind i ≡ Holds t o
-      → getD vs i none ≡ none → (at : ℕ × ℕ) (number place : ℕ) (part : ℕ × ℕ) (bytes : List ℕ) → Views kind today c t at number place part bytes
-      → (number ≡ numberOf NoElement) × (bytes ≡ [])
+      → getD vs i none ≡ none → (at : ℕ × ℕ) (number place tag : ℕ) (part : ℕ × ℕ) (bytes : List ℕ) → Views kind today c t at number place tag part bytes
+      → (number ≡ numberOf NoElement) × (tag ≡ noTag) × (bytes ≡ [])
   pub view-foreign : (kind today : ℕ) (c : List ℕ) → Bytes c → (vs : Values) → Conforms kind today vs c → (t : ℕ) → ((i : ℕ) (o : Bool) → rowAt kind i ≡ Holds t o → ⊥)
-      → (at : ℕ × ℕ) (number place : ℕ) (part : ℕ × ℕ) (bytes : List ℕ) → Views kind today c t at number place part bytes
-      → (number ≡ numberOf NoElement) × (bytes ≡ [])
+      → (at : ℕ × ℕ) (number place tag : ℕ) (part : ℕ × ℕ) (bytes : List ℕ) → Views kind today c t at number place tag part bytes
+      → (number ≡ numberOf NoElement) × (tag ≡ noTag) × (bytes ≡ [])
   -- a FASC-N alone: decoded exactly when there are nine numbers in range whose bytes these are; there and back
   pub decodes-when : (s : List ℕ) (r : Decoded) → Decodes s r → (r .number ≡ 0) ↔ IsFascn s
   pub encode-then-decode : (n : Numbers) (before after : List ℕ) → Encodes n before after 0 → (r : Decoded) → Decodes (take 25 after) r
@@ -159,7 +185,7 @@ pub record Demand2 : Type 0 where
 -- ---- Demand 3. "Replace the personal values of a conforming container by any others of the same lengths that meet the rules: under the same date the desk
 -- report is the same in every byte. Two refused containers of one kind and length, same date, same broken rule at the same place, get the same report.
 -- Conversely, two conforming containers with equal reports have the same kind, tags, lengths and open values. All for any earlier contents of the report
--- room (at least 512 bytes)."
+-- room (at least 512 bytes)." 2026-02: "What demand 3 says of two refused containers now also needs the same tag."
 
 pub record Demand3 : Type 0 where
   -- "Personal" is whatever is neither in the shape (which rows are there, and their lengths) nor among the open values
@@ -167,6 +193,7 @@ pub record Demand3 : Type 0 where
       → shape vs ≡ shape ws → openOf kind vs ≡ openOf kind ws
       → (before₁ before₂ after₁ after₂ : List ℕ) (r₁ r₂ : Done) → length before₁ ≡ length before₂
       → Reports kind today c before₁ after₁ r₁ → Reports kind today d before₂ after₂ r₂ → (r₁ ≡ r₂) × (after₁ ≡ after₂)
+  -- "Two refused containers of one kind and length, same date, same broken rule at the same place" and with the same tag: with one verdict
   pub nothing-of-refused : (kind today : ℕ) (c d : List ℕ) (v : Verdict) → Judges kind today c v → Judges kind today d v → (v .number ≡ 0 → ⊥) → length c ≡ length d
       → (before₁ before₂ after₁ after₂ : List ℕ) (r₁ r₂ : Done) → length before₁ ≡ length before₂
       → Reports kind today c before₁ after₁ r₁ → Reports kind today d before₂ after₂ r₂ → (r₁ ≡ r₂) × (after₁ ≡ after₂)
@@ -197,7 +224,7 @@ pub record AtTheDesk : Type 0 where
   -- "Replace the personal values .. the desk report is the same in every byte."
   pub nothing-personal : (kind today : ℕ) (vs ws : Values) (c d : List ℕ) → Bytes c → Bytes d → Conforms kind today vs c → Conforms kind today ws d
       → shape vs ≡ shape ws → openOf kind vs ≡ openOf kind ws → (s u : List ℕ) → Asks s kind today c → Asks u kind today d → printed s ≡ printed u
-  -- "Two refused containers of one kind and length, same date, same broken rule at the same place, get the same report."
+  -- "Two refused containers of one kind and length, same date, same broken rule at the same place" and with the same tag "get the same report."
   pub nothing-of-refused : (kind today : ℕ) (c d : List ℕ) (v : Verdict) → Judges kind today c v → Judges kind today d v → (v .number ≡ 0 → ⊥) → length c ≡ length d
       → (s u : List ℕ) → Asks s kind today c → Asks u kind today d → printed s ≡ printed u
   -- "Conversely, two conforming containers with equal reports have the same kind, tags, lengths and open values."
@@ -208,7 +235,7 @@ pub record AtTheDesk : Type 0 where
   pub never-cut : (s : List ℕ) → length (printed s) ≤ 512
 
 -- ---- "For each public call the contract determines number, place, returned part and each byte of lent room, on every input and every refusal. Any two
--- results that satisfy it are shown equal." Rooms of one length may have held anything before. (A returned part has a block, an offset and bytes; the ghost
+-- results that satisfy it are shown equal." The tag is a part of the answer as the place is. Rooms of one length may have held anything before. (A returned part has a block, an offset and bytes; the ghost
 -- name of its reference is no value, and is left open.)
 
 pub record Settled : Type 0 where
@@ -216,9 +243,9 @@ pub record Settled : Type 0 where
       → Checks kind today c before₁ after₁ r₁ → Checks kind today c before₂ after₂ r₂ → (r₁ ≡ r₂) × (after₁ ≡ after₂)
   pub one-write : (kind today : ℕ) (s before₁ before₂ after₁ after₂ : List ℕ) (r₁ r₂ : Done) → length before₁ ≡ length before₂
       → Writes kind today s before₁ after₁ r₁ → Writes kind today s before₂ after₂ r₂ → (r₁ ≡ r₂) × (after₁ ≡ after₂)
-  pub one-view : (kind today : ℕ) (c : List ℕ) (tag : ℕ) (at : ℕ × ℕ) (n₁ n₂ p₁ p₂ : ℕ) (part₁ part₂ : ℕ × ℕ) (bytes₁ bytes₂ : List ℕ)
-      → Views kind today c tag at n₁ p₁ part₁ bytes₁ → Views kind today c tag at n₂ p₂ part₂ bytes₂
-      → (n₁ ≡ n₂) × (p₁ ≡ p₂) × (part₁ ≡ part₂) × (bytes₁ ≡ bytes₂)
+  pub one-view : (kind today : ℕ) (c : List ℕ) (element : ℕ) (at : ℕ × ℕ) (n₁ n₂ p₁ p₂ t₁ t₂ : ℕ) (part₁ part₂ : ℕ × ℕ) (bytes₁ bytes₂ : List ℕ)
+      → Views kind today c element at n₁ p₁ t₁ part₁ bytes₁ → Views kind today c element at n₂ p₂ t₂ part₂ bytes₂
+      → (n₁ ≡ n₂) × (p₁ ≡ p₂) × (t₁ ≡ t₂) × (part₁ ≡ part₂) × (bytes₁ ≡ bytes₂)
   pub one-report : (kind today : ℕ) (c before₁ before₂ after₁ after₂ : List ℕ) (r₁ r₂ : Done) → length before₁ ≡ length before₂
       → Reports kind today c before₁ after₁ r₁ → Reports kind today c before₂ after₂ r₂ → (r₁ ≡ r₂) × (after₁ ≡ after₂)
   pub one-decode : (s : List ℕ) (r₁ r₂ : Decoded) → Decodes s r₁ → Decodes s r₂ → r₁ ≡ r₂
@@ -227,13 +254,14 @@ pub record Settled : Type 0 where
 
 -- the same of the functions for C, which answer a number and store the others
 pub record SettledForC : Type 0 where
-  pub one-check : (kind today : ℕ) (c before₁ before₂ after₁ after₂ : List ℕ) (n₁ n₂ p₁ p₂ m₁ m₂ l₁ l₂ : ℕ) → Bytes c → length before₁ ≡ length before₂
-      → CChecks kind today c before₁ after₁ n₁ p₁ m₁ l₁ → CChecks kind today c before₂ after₂ n₂ p₂ m₂ l₂
-      → (n₁ ≡ n₂) × (p₁ ≡ p₂) × (m₁ ≡ m₂) × (l₁ ≡ l₂) × (after₁ ≡ after₂)
-  pub one-write : (kind today : ℕ) (s before₁ before₂ after₁ after₂ : List ℕ) (n₁ n₂ p₁ p₂ l₁ l₂ : ℕ) → length before₁ ≡ length before₂
-      → CWrites kind today s before₁ after₁ n₁ p₁ l₁ → CWrites kind today s before₂ after₂ n₂ p₂ l₂ → (n₁ ≡ n₂) × (p₁ ≡ p₂) × (l₁ ≡ l₂) × (after₁ ≡ after₂)
-  pub one-view : (kind today : ℕ) (c : List ℕ) (tag n₁ n₂ p₁ p₂ o₁ o₂ l₁ l₂ : ℕ)
-      → CViews kind today c tag n₁ p₁ o₁ l₁ → CViews kind today c tag n₂ p₂ o₂ l₂ → (n₁ ≡ n₂) × (p₁ ≡ p₂) × (o₁ ≡ o₂) × (l₁ ≡ l₂)
+  pub one-check : (kind today : ℕ) (c before₁ before₂ after₁ after₂ : List ℕ) (n₁ n₂ p₁ p₂ t₁ t₂ m₁ m₂ l₁ l₂ : ℕ) → Bytes c → length before₁ ≡ length before₂
+      → CChecks kind today c before₁ after₁ n₁ p₁ t₁ m₁ l₁ → CChecks kind today c before₂ after₂ n₂ p₂ t₂ m₂ l₂
+      → (n₁ ≡ n₂) × (p₁ ≡ p₂) × (t₁ ≡ t₂) × (m₁ ≡ m₂) × (l₁ ≡ l₂) × (after₁ ≡ after₂)
+  pub one-write : (kind today : ℕ) (s before₁ before₂ after₁ after₂ : List ℕ) (n₁ n₂ p₁ p₂ t₁ t₂ l₁ l₂ : ℕ) → length before₁ ≡ length before₂
+      → CWrites kind today s before₁ after₁ n₁ p₁ t₁ l₁ → CWrites kind today s before₂ after₂ n₂ p₂ t₂ l₂
+      → (n₁ ≡ n₂) × (p₁ ≡ p₂) × (t₁ ≡ t₂) × (l₁ ≡ l₂) × (after₁ ≡ after₂)
+  pub one-view : (kind today : ℕ) (c : List ℕ) (element n₁ n₂ p₁ p₂ t₁ t₂ o₁ o₂ l₁ l₂ : ℕ)
+      → CViews kind today c element n₁ p₁ t₁ o₁ l₁ → CViews kind today c element n₂ p₂ t₂ o₂ l₂ → (n₁ ≡ n₂) × (p₁ ≡ p₂) × (t₁ ≡ t₂) × (o₁ ≡ o₂) × (l₁ ≡ l₂)
   pub one-report : (kind today : ℕ) (c before₁ before₂ after₁ after₂ : List ℕ) (n₁ n₂ l₁ l₂ : ℕ) → length before₁ ≡ length before₂
       → CReports kind today c before₁ after₁ n₁ l₁ → CReports kind today c before₂ after₂ n₂ l₂ → (n₁ ≡ n₂) × (l₁ ≡ l₂) × (after₁ ≡ after₂)
   pub one-decode : (s : List ℕ) (n₁ n₂ : ℕ) (nine₁ nine₂ : List ℕ) → CDecodes s n₁ nine₁ → CDecodes s n₂ nine₂ → (n₁ ≡ n₂) × (nine₁ ≡ nine₂)

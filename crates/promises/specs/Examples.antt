@@ -1,21 +1,24 @@
--- The examples of document 01, P1 to P14, those of requests 2026-04 and 2026-13, and further rows, as one table: what each row says, over the rules themselves, and the table.
-use Prim.Native.Nat.{ℕ, zero, suc}
+-- The examples of document 01, P1 to P14, those of requests 2026-04, 2026-13 and 2026-02, and further rows, as one table: what each row says, over the rules themselves, and the table.
+use Prim.Native.Nat.{ℕ, zero, suc, _+_}
 use mathlib.Core.Path.{_≡_}
 use mathlib.Core.Option.{Option, none, some}
 use mathlib.Core.List.{List, [], _∷_, _++_}
 use lib.ListN.{length, replicate}
-use Rattle.laws.specs.Room.{filled}
+use Rattle.laws.specs.Room.{zeros, filled}
 use Rattle.fascn.specs.Fascn.{IsFascnOf, IsFascn}
 use Rattle.fascn.specs.declared.Numbers.{Numbers}
 use Rattle.lengths.specs.Length.{Spells}
 use Rattle.dates.specs.Date.{IsDate, InWindow}
 use Rattle.verdicts.specs.Verdicts.{numberOf, found}
 use Rattle.verdicts.specs.declared.Fault.{Fault}
+use Rattle.verdicts.specs.declared.Tag.{Tag}
+use Rattle.verdicts.specs.declared.Tag.the-variants.{NoTag, Of}
+use Rattle.verdicts.specs.declared.Done.{Done}
 use Rattle.rules.specs.Rules.{application}
 use Rattle.container.specs.Container.{Values, container, Conforms}
 use Rattle.container.specs.InOrder.{Named}
 use Rattle.sheet.specs.declared.Checked.{Checked}
-use Rattle.prosianek.specs.Calls.{Checks}
+use Rattle.prosianek.specs.Calls.{Checks, Writes}
 
 -- ---- what a row of the table says
 
@@ -29,8 +32,9 @@ pub data Example : Type 0 where
   kept : ℕ → ℕ → Example
   late : ℕ → ℕ → Example
   conforms : ℕ → List ℕ → Example
-  breaks : ℕ → List ℕ → ℕ → ℕ → Example
-  checks : ℕ → List ℕ → ℕ → ℕ → ℕ → ℕ → List ℕ → Example
+  breaks : ℕ → List ℕ → ℕ → ℕ → Tag → Example
+  checks : ℕ → List ℕ → ℕ → ℕ → ℕ → Tag → ℕ → List ℕ → Example
+  refuses : ℕ → List ℕ → ℕ → ℕ → ℕ → Tag → Example
 
 -- "With today 20260301"
 abbrev pub today : ℕ
@@ -46,10 +50,13 @@ Holds (no-date n) = IsDate n → ⊥
 Holds (kept t e) = InWindow t e  -- under the date t the expiry e is kept
 Holds (late t e) = InWindow t e → ⊥
 Holds (conforms kind c) = (vs : Values) × Conforms kind today vs c  -- there are values that are allowed and written as these bytes
-Holds (breaks kind c number place) = (f : Fault) × (number ≡ numberOf f) × Named kind today c (found f place)  -- the first broken rule has this number and place
--- a check with a room of so many bytes, whatever they were, answers this number and place with this number beside them, and leaves this sheet and zeros
-Holds (checks kind c room number place short sheet) = (before after : List ℕ) (r : Checked) → length before ≡ room → Checks kind today c before after r
-    → (r ≡ record { verdict = record { number = number; place = place }; room = short; length = length sheet }) × (after ≡ filled sheet room)
+Holds (breaks kind c number place tag) = (f : Fault) × (number ≡ numberOf f) × Named kind today c (found f place tag)  -- the first broken rule has this number, place and tag
+-- a check with a room of so many bytes, whatever they were, answers this number, place and tag with this number beside them, and leaves this sheet and zeros
+Holds (checks kind c room number place tag short sheet) = (before after : List ℕ) (r : Checked) → length before ≡ room → Checks kind today c before after r
+    → (r ≡ record { verdict = record { number = number; place = place; tag = tag }; room = short; length = length sheet }) × (after ≡ filled sheet room)
+-- a write of this sheet, with a room of so many bytes, whatever they were, answers this number, place and tag, and leaves zeros alone
+Holds (refuses kind s room number place tag) = (before after : List ℕ) (r : Done) → length before ≡ room → Writes kind today s before after r
+    → (r ≡ record { number = number; place = place; tag = tag; length = 0 }) × (after ≡ zeros room)
 
 abbrev pub All : List Example → Type 0
 All [] = Unit {0}
@@ -77,9 +84,22 @@ uuid = replicate 6 1 ++ (0x40 ∷ 0 ∷ 0x80 ∷ replicate 7 1)
 abbrev expiry : List ℕ
 expiry = 0x32 ∷ 0x30 ∷ 0x33 ∷ 0x30 ∷ 0x30 ∷ 0x31 ∷ 0x33 ∷ 0x31 ∷ []
 
--- case R, and its sheet; and a CHUID with each optional element
+-- case R's sheet with another FASC-N, another GUID, and its last section given; and the sheet itself
+abbrev chuidRows : List ℕ → List ℕ → List ℕ → List ℕ
+chuidRows fascn guid last =
+    0 ∷ 0 ∷ 0 ∷ (length fascn + 1) ∷ (fascn ++ (0 ∷ 0 ∷ 0 ∷ 0 ∷ 0 ∷ (length guid + 1) ∷ (guid ++ (0 ∷ 9 ∷ (expiry ++ (0 ∷ 0 ∷ 0 ∷ 1 ∷ last))))))
+
 abbrev chuidSheet : List ℕ
-chuidSheet = 0 ∷ 0 ∷ 0 ∷ 26 ∷ (p1 0xEB ++ (0 ∷ 0 ∷ 0 ∷ 0 ∷ 0 ∷ 17 ∷ (uuid ++ (0 ∷ 9 ∷ (expiry ++ (0 ∷ 0 ∷ 0 ∷ 1 ∷ 0 ∷ 1 ∷ []))))))
+chuidSheet = chuidRows (p1 0xEB) uuid (0 ∷ 1 ∷ [])
+
+-- an element of fewer than 128 bytes; and a CHUID of some elements, of fewer than 128 bytes too
+abbrev element : ℕ → List ℕ → List ℕ
+element tag value = tag ∷ length value ∷ value
+
+abbrev chuidOf : List ℕ → List ℕ
+chuidOf elements = 0x53 ∷ length elements ∷ elements
+
+-- case R; and a CHUID with each optional element
 
 abbrev chuid : List ℕ
 chuid = container 2 (none ∷ some (p1 0xEB) ∷ none ∷ none ∷ some uuid ∷ some expiry ∷ none ∷ some [] ∷ some [] ∷ [])
@@ -165,10 +185,10 @@ examples =
     ∷ late 20260301 20320302
     -- P13, P14
     ∷ conforms 3 (discovery 0x40)
-    ∷ breaks 3 (discovery 0x60) 20 15
+    ∷ breaks 3 (discovery 0x60) 20 15 (Of 0x5F2F)
     -- an empty container, and one without elements
-    ∷ breaks 2 [] 10 0
-    ∷ breaks 2 (0x53 ∷ 0x00 ∷ []) 15 2
+    ∷ breaks 2 [] 10 0 NoTag
+    ∷ breaks 2 (0x53 ∷ 0x00 ∷ []) 15 2 NoTag
     -- one conforming container of every kind; a CHUID with each optional element
     ∷ conforms 1 ccc
     ∷ conforms 2 chuid
@@ -178,55 +198,78 @@ examples =
     ∷ conforms 6 (fingers 0x64)
     ∷ conforms 7 (face 0x64)
     -- the quality is a signed byte; -1 is known in FINGERS and not in FACE
-    ∷ breaks 6 (fingers 0xFD) 21 3
+    ∷ breaks 6 (fingers 0xFD) 21 3 (Of 0xBC)
     ∷ conforms 6 (fingers 0xFE)
     ∷ conforms 6 (fingers 0xFF)
-    ∷ breaks 6 (fingers 0x65) 21 3
+    ∷ breaks 6 (fingers 0x65) 21 3 (Of 0xBC)
     ∷ conforms 7 (face 0xFE)
-    ∷ breaks 7 (face 0xFF) 21 2
+    ∷ breaks 7 (face 0xFF) 21 2 (Of 0xBC)
     -- bytes after the outer end; a byte 5F without 2F; FE missing at the end
-    ∷ breaks 5 (security ++ (0 ∷ [])) 12 0
-    ∷ breaks 3 (0x7E ∷ 0x02 ∷ 0x5F ∷ 0x00 ∷ []) 13 2
-    ∷ breaks 5 (0x53 ∷ 0x04 ∷ 0xBA ∷ 0x00 ∷ 0xBB ∷ 0x00 ∷ []) 15 6
+    ∷ breaks 5 (security ++ (0 ∷ [])) 12 0 NoTag
+    ∷ breaks 3 (0x7E ∷ 0x02 ∷ 0x5F ∷ 0x00 ∷ []) 13 2 (Of 0x5F)
+    ∷ breaks 5 (0x53 ∷ 0x04 ∷ 0xBA ∷ 0x00 ∷ 0xBB ∷ 0x00 ∷ []) 15 6 NoTag
     -- 2026-04: the least certificate, of each of the four kinds; no kind 12
     ∷ conforms 8 (certified 8 (three 0x30 null) 0x00 none)
     ∷ conforms 9 (certified 9 (three 0x30 null) 0x00 none)
     ∷ conforms 10 (certified 10 (three 0x30 null) 0x00 none)
     ∷ conforms 11 (certified 11 (three 0x30 null) 0x00 none)
-    ∷ breaks 12 (bare (three 0x30 null)) 1 0
+    ∷ breaks 12 (bare (three 0x30 null)) 1 0 NoTag
     -- an item at level 8, and at level 9; at level 9 half an item too
     ∷ conforms 8 (bare (three 0x30 (nested 6 null)))
-    ∷ breaks 8 (bare (three 0x30 (nested 7 null))) 25 2
-    ∷ breaks 8 (bare (three 0x30 (nested 6 (item 0x30 (0x05 ∷ []))))) 25 2
+    ∷ breaks 8 (bare (three 0x30 (nested 7 null))) 25 2 (Of 0x70)
+    ∷ breaks 8 (bare (three 0x30 (nested 6 (item 0x30 (0x05 ∷ []))))) 25 2 (Of 0x70)
     -- a tag of number 31; at level 9 the level comes first, and a bad item before it first of all
-    ∷ breaks 8 (bare (three 0x30 (item 0x1F []))) 24 2
-    ∷ breaks 8 (bare (three 0x30 (nested 7 (item 0x1F [])))) 25 2
-    ∷ breaks 8 (bare (item 0x30 (item 0x1F [] ++ (nested 7 null ++ null)))) 24 2
+    ∷ breaks 8 (bare (three 0x30 (item 0x1F []))) 24 2 (Of 0x70)
+    ∷ breaks 8 (bare (three 0x30 (nested 7 (item 0x1F [])))) 25 2 (Of 0x70)
+    ∷ breaks 8 (bare (item 0x30 (item 0x1F [] ++ (nested 7 null ++ null)))) 24 2 (Of 0x70)
     -- a SET outside; two parts, and four; a fourth that is too deep: the three are judged last
-    ∷ breaks 8 (bare (three 0x31 null)) 24 2
-    ∷ breaks 8 (bare (item 0x30 (null ++ null))) 24 2
-    ∷ breaks 8 (bare (item 0x30 (null ++ (null ++ (null ++ null))))) 24 2
-    ∷ breaks 8 (bare (item 0x30 (null ++ (null ++ (null ++ nested 7 null))))) 25 2
+    ∷ breaks 8 (bare (three 0x31 null)) 24 2 (Of 0x70)
+    ∷ breaks 8 (bare (item 0x30 (null ++ null))) 24 2 (Of 0x70)
+    ∷ breaks 8 (bare (item 0x30 (null ++ (null ++ (null ++ null))))) 24 2 (Of 0x70)
+    ∷ breaks 8 (bare (item 0x30 (null ++ (null ++ (null ++ nested 7 null))))) 25 2 (Of 0x70)
     -- 127 as 81 7F; an indefinite length; a part that runs past its item; a byte behind the outermost item; no bytes at all
-    ∷ breaks 8 (bare (three 0x30 (0x04 ∷ 0x81 ∷ 0x7F ∷ replicate 100 0))) 24 2
-    ∷ breaks 8 (bare (0x30 ∷ 0x80 ∷ (null ++ (null ++ (null ++ (0 ∷ 0 ∷ [])))))) 24 2
-    ∷ breaks 8 (bare (three 0x30 (0x30 ∷ 0x02 ∷ 0x05 ∷ 0x04 ∷ []))) 24 2
-    ∷ breaks 8 (bare (three 0x30 null ++ (0 ∷ []))) 24 2
-    ∷ breaks 8 (bare []) 24 2
+    ∷ breaks 8 (bare (three 0x30 (0x04 ∷ 0x81 ∷ 0x7F ∷ replicate 100 0))) 24 2 (Of 0x70)
+    ∷ breaks 8 (bare (0x30 ∷ 0x80 ∷ (null ++ (null ++ (null ++ (0 ∷ 0 ∷ [])))))) 24 2 (Of 0x70)
+    ∷ breaks 8 (bare (three 0x30 (0x30 ∷ 0x02 ∷ 0x05 ∷ 0x04 ∷ []))) 24 2 (Of 0x70)
+    ∷ breaks 8 (bare (three 0x30 null ++ (0 ∷ []))) 24 2 (Of 0x70)
+    ∷ breaks 8 (bare []) 24 2 (Of 0x70)
     -- 71 other than 00; 72 of 38 bytes, and of 39
-    ∷ breaks 9 (certified 9 (three 0x30 null) 0x01 none) 20 12
+    ∷ breaks 9 (certified 9 (three 0x30 null) 0x01 none) 20 12 (Of 0x71)
     ∷ conforms 10 (certified 10 (three 0x30 null) 0x00 (some (replicate 38 0x41)))
-    ∷ breaks 10 (certified 10 (three 0x30 null) 0x00 (some (replicate 39 0x41))) 16 15
+    ∷ breaks 10 (certified 10 (three 0x30 null) 0x00 (some (replicate 39 0x41))) 16 15 (Of 0x72)
     -- 2026-13: case R with a room that is just enough, with one byte more and one less, and with none: 3 beside a verdict of 0
-    ∷ checks 2 chuid 67 0 0 0 chuidSheet
-    ∷ checks 2 chuid 68 0 0 0 chuidSheet
-    ∷ checks 2 chuid 66 0 0 3 []
-    ∷ checks 2 chuid 0 0 0 3 []
+    ∷ checks 2 chuid 67 0 0 NoTag 0 chuidSheet
+    ∷ checks 2 chuid 68 0 0 NoTag 0 chuidSheet
+    ∷ checks 2 chuid 66 0 0 NoTag 3 []
+    ∷ checks 2 chuid 0 0 0 NoTag 3 []
     -- P13's two rows; P14, with no room, and with room for its sheet: no 3 beside a broken rule, and nothing is written
-    ∷ checks 3 (discovery 0x40) 17 0 0 0 (0 ∷ 12 ∷ (application ++ (0 ∷ 3 ∷ 0x40 ∷ 0x00 ∷ [])))
-    ∷ checks 3 (discovery 0x60) 0 20 15 0 []
-    ∷ checks 3 (discovery 0x60) 17 20 15 0 []
+    ∷ checks 3 (discovery 0x40) 17 0 0 NoTag 0 (0 ∷ 12 ∷ (application ++ (0 ∷ 3 ∷ 0x40 ∷ 0x00 ∷ [])))
+    ∷ checks 3 (discovery 0x60) 0 20 15 (Of 0x5F2F) 0 []
+    ∷ checks 3 (discovery 0x60) 17 20 15 (Of 0x5F2F) 0 []
     -- no such kind, and no container
-    ∷ checks 12 chuid 0 1 0 0 []
-    ∷ checks 2 [] 67 10 0 0 []
+    ∷ checks 12 chuid 0 1 0 NoTag 0 []
+    ∷ checks 2 [] 67 10 0 NoTag 0 []
+    -- 2026-02: a broken FASC-N (P2) in the first element; a repeated one, and one whose length is cut short
+    ∷ breaks 2 (chuidOf (element 0x30 (p1 0xEA))) 17 2 (Of 0x30)
+    ∷ breaks 2 (chuidOf (element 0x30 (p1 0xEB) ++ element 0x30 (p1 0xEB))) 14 29 (Of 0x30)
+    ∷ breaks 2 (chuidOf (element 0x30 (p1 0xEB) ++ (0x34 ∷ 0x81 ∷ []))) 11 29 (Of 0x34)
+    -- 15: another element is found, and its tag is named, not that of the row passed over; a row is missing at the end, and there is none to name
+    ∷ breaks 2 (chuidOf (element 0x30 (p1 0xEB) ++ element 0x35 expiry)) 15 29 (Of 0x35)
+    ∷ breaks 2 (chuidOf (element 0x30 (p1 0xEB) ++ (element 0x34 uuid ++ (element 0x35 expiry ++ element 0x3E [])))) 15 59 NoTag
+    -- 13 names the card's byte, 00 too; in DISCOVERY a 5F with another byte behind it, and with none
+    ∷ breaks 2 (chuidOf (element 0x30 (p1 0xEB) ++ element 0x00 [])) 13 29 (Of 0x00)
+    ∷ breaks 3 (0x7E ∷ 0x0F ∷ 0x4F ∷ 0x0B ∷ (application ++ (0x5F ∷ 0x2E ∷ []))) 13 15 (Of 0x5F)
+    ∷ breaks 3 (0x7E ∷ 0x0E ∷ 0x4F ∷ 0x0B ∷ (application ++ (0x5F ∷ []))) 13 15 (Of 0x5F)
+    -- outer faults name none, whatever byte stands there: another tag, a length in another form
+    ∷ breaks 2 (0x7E ∷ 0x00 ∷ []) 10 0 NoTag
+    ∷ breaks 2 (0x53 ∷ 0x80 ∷ []) 11 0 NoTag
+    -- a sheet that is written names the row: the first mandatory one missing, FE missing, a UUID of fifteen bytes, a broken FASC-N, the policy of P14
+    ∷ refuses 2 (replicate 18 0) 99 15 2 (Of 0x30)
+    ∷ refuses 2 (chuidRows (p1 0xEB) uuid (0 ∷ 0 ∷ [])) 99 15 65 (Of 0xFE)
+    ∷ refuses 2 (chuidRows (p1 0xEB) (replicate 15 0) (0 ∷ 1 ∷ [])) 99 16 33 (Of 0x34)
+    ∷ refuses 2 (chuidRows (p1 0xEA) uuid (0 ∷ 1 ∷ [])) 99 17 2 (Of 0x30)
+    ∷ refuses 3 (0 ∷ 12 ∷ (application ++ (0 ∷ 3 ∷ 0x60 ∷ 0x00 ∷ []))) 20 20 13 (Of 0x5F2F)
+    -- and none where no row is at fault: a sheet cut short, a room that is too small
+    ∷ refuses 2 (chuidRows (p1 0xEB) uuid (0 ∷ [])) 99 5 0 NoTag
+    ∷ refuses 2 chuidSheet 60 3 0 NoTag
     ∷ []

@@ -32,10 +32,10 @@ pub record Checks (kind today : ℕ) (c before after : List ℕ) (r : Checked) :
 pub record Writes (kind today : ℕ) (s before after : List ℕ) (r : Done) : Type 0 where
   pub leaves : Leaves (writeOutput kind today s (length before)) before after r
 
--- "View: check, then 6": the number and the place that are stored, and the part that is handed out, which stands at a block and an offset and has these
--- bytes; the container c stands at the block and the offset `at`
-pub record Views (kind today : ℕ) (c : List ℕ) (tag : ℕ) (at : ℕ × ℕ) (number place : ℕ) (part : ℕ × ℕ) (bytes : List ℕ) : Type 0 where
-  pub shows : Answers (viewed kind today c tag) at number place part bytes
+-- "View: check, then 6": of the element that has a tag, the number, the place and the tag's number that are stored, and the part that is handed out, which
+-- stands at a block and an offset and has these bytes; the container c stands at the block and the offset `at`
+pub record Views (kind today : ℕ) (c : List ℕ) (element : ℕ) (at : ℕ × ℕ) (number place tag : ℕ) (part : ℕ × ℕ) (bytes : List ℕ) : Type 0 where
+  pub shows : Answers (viewed kind today c element) at number place tag part bytes
 
 -- "Report: 1, 2, 3, 4, then 8; broken rules are reported"
 pub record Reports (kind today : ℕ) (c before after : List ℕ) (r : Done) : Type 0 where

@@ -9,36 +9,37 @@ use fascn::Numbers;
 use sheet::Checked;
 use verdicts::Done;
 
-// Whether a container conforms, or the first broken rule and its place; and the value sheet of one that does, where the room
-// suffices. With an empty room it gives the verdict alone, and 3 beside a verdict of 0.
+// Whether a container conforms, or the first broken rule, its place and the tag there; and the value sheet of one that does, where
+// the room suffices. With an empty room it gives the verdict alone, and 3 beside a verdict of 0.
 pub fn check(kind: u64, today: u64, container: &[u8], sheet: &mut [u8]) -> Checked
     ensures { λ r. ⌜ Checks kind today (now (container .entry)) (now (sheet .entry)) (now (sheet .exit)) r ⌝ }
 {
     sheet::check(kind, today, container, sheet)
 }
 
-// The container of a value sheet.
+// The container of a value sheet, or the first broken rule, the place of its row and the row's tag.
 pub fn write(kind: u64, today: u64, sheet: &[u8], container: &mut [u8]) -> Done
     ensures { λ r. ⌜ Writes kind today (now (sheet .entry)) (now (container .entry)) (now (container .exit)) r ⌝ }
 {
     writing::write(kind, today, sheet, container)
 }
 
-// The value of the element with a tag, as a part of the container.
+// The value of the element that has this tag, as a part of the container. The tag that is stored is the verdict's, by its number.
 pub fn view<'a>(
     kind: u64,
     today: u64,
     container: &'a [u8],
-    tag: u64,
+    element: u64,
     number: &mut u64,
     place: &mut u64,
+    tag: &mut u64,
 ) -> &'a [u8]
-    ensures { λ r. ⌜ Views kind today (now (container .entry)) tag (container .entry .ptr) (now (number .exit)) (now (place .exit)) (r .ptr) (now r) ⌝ }
+    ensures { λ r. ⌜ Views kind today (now (container .entry)) element (container .entry .ptr) (now (number .exit)) (now (place .exit)) (now (tag .exit)) (r .ptr) (now r) ⌝ }
 {
-    views::view(kind, today, container, tag, number, place)
+    views::view(kind, today, container, element, number, place, tag)
 }
 
-// The desk report of a container.
+// The desk report of a container. Its own answer has no place and no tag: those of a broken rule stand in the report.
 pub fn report(kind: u64, today: u64, container: &[u8], room: &mut [u8]) -> Done
     ensures { λ r. ⌜ Reports kind today (now (container .entry)) (now (room .entry)) (now (room .exit)) r ⌝ }
 {

@@ -12,7 +12,7 @@ use Rattle.laws.proofs.Cases.{which}
 use Rattle.dates.specs.Date.{isDate}
 use Rattle.dates.proofs.Dates.{date-exact}
 use Rattle.kinds.specs.Tables.{isKind}
-use Rattle.verdicts.specs.Verdicts.{found}
+use Rattle.verdicts.specs.Verdicts.{outright}
 use Rattle.verdicts.specs.Output.{Output, refusal, text}
 use Rattle.verdicts.specs.declared.Fault.{Fault}
 use Rattle.verdicts.specs.declared.Fault.the-variants.{UnknownKind, NoDate, SmallRoom, LargeContainer, LongReport}
@@ -24,22 +24,22 @@ use Rattle.report.specs.Calls.{fitting, reportOutput}
 use Rattle.report.proofs.Bound.{report-length}
 
 module _ (kind today : ℕ) (c : List ℕ) (room : ℕ) where
-  pub report-1 : isKind kind ≡ false → reportOutput kind today c room ≡ refusal (found UnknownKind 0)
+  pub report-1 : isKind kind ≡ false → reportOutput kind today c room ≡ refusal (outright UnknownKind)
   unfolding reportOutput
   report-1 k = rw k
 
   module _ (k : isKind kind ≡ true) where
-    pub report-2 : isDate today ≡ false → reportOutput kind today c room ≡ refusal (found NoDate 0)
+    pub report-2 : isDate today ≡ false → reportOutput kind today c room ≡ refusal (outright NoDate)
     unfolding reportOutput
     report-2 d = rw (k, d)
 
     module _ (d : isDate today ≡ true) where
-      pub report-3 : room < 512 → reportOutput kind today c room ≡ refusal (found SmallRoom 0)
+      pub report-3 : room < 512 → reportOutput kind today c room ≡ refusal (outright SmallRoom)
       unfolding reportOutput
       report-3 l = rw (k, d, lt-ltb _ _ l)
 
       module _ (l : 512 ≤ room) where
-        pub report-4 : largest < length c → reportOutput kind today c room ≡ refusal (found LargeContainer 0)
+        pub report-4 : largest < length c → reportOutput kind today c room ≡ refusal (outright LargeContainer)
         unfolding reportOutput
         report-4 g = rw (k, d, le-ltb _ _ l, lt-leb _ _ g)
 
@@ -58,7 +58,7 @@ module _ (kind today : ℕ) (c : List ℕ) (room : ℕ) where
       rw (conforms-parsed kind today c b vs h) at (report-0 (kind-exact kind .1 (h .kind-is)) (date-exact today .1 (h .date-is)) l (h .size-is) b)
 
   -- all that a call can answer: a refusal without a place, or a whole report in a room of at least 512 bytes
-  pub report-cases : (P : Output → Type 0) → ((f : Fault) → P (refusal (found f 0))) → ((t : List ℕ) → 512 ≤ room → length t ≤ 512 → P (text t)) → P (reportOutput kind today c room)
+  pub report-cases : (P : Output → Type 0) → ((f : Fault) → P (refusal (outright f))) → ((t : List ℕ) → 512 ≤ room → length t ≤ 512 → P (text t)) → P (reportOutput kind today c room)
   unfolding reportOutput
   report-cases P refuse give =
       elim (which (isKind kind)) [

@@ -7,9 +7,10 @@ use lib.ListN.{length, length-append, length-take}
 use Rattle.laws.specs.Bytes.{Bytes}
 use Rattle.lengths.specs.Length.{lengthBytes}
 use Rattle.kinds.specs.Tables.{table}
-use Rattle.verdicts.specs.Verdicts.{found}
+use Rattle.verdicts.specs.Verdicts.{outright, verdictOf}
 use Rattle.verdicts.specs.declared.Fault.{Fault}
 use Rattle.verdicts.specs.declared.Finding.{Finding}
+use Rattle.verdicts.specs.declared.Outcome.the-variants.{Fine, Broken}
 use Rattle.verdicts.proofs.Apart.{number-small}
 use Rattle.container.specs.Container.{encode, largest}
 use Rattle.container.specs.Reading.{Parsed, values, fault, parsed}
@@ -25,7 +26,7 @@ use Rattle.report.specs.Report.{reportText}
 
 -- ---- the place of what is wrong lies within the container
 
-at-start : {f : Finding} {g : Fault} {n : ℕ} → f ≡ found g 0 → f .place ≤ n
+at-start : {f : Finding} {g : Fault} {n : ℕ} → f ≡ outright g → f .place ≤ n
 at-start {n = n} e = let z = ap (λ (f : Finding). f .place) e in omega (arith, z)
 
 placed : (kind today : ℕ) (c : List ℕ) (f : Finding) → Named kind today c f → f .place ≤ length c
@@ -54,11 +55,11 @@ report-length kind today c b h = go (parsed kind today c) refl
         let a = exact kind today c b vs .0 e .allowed in
         omega (
           arith,
-          three-long (cardPart kind (length c) today 0 0) (elementsPart (table kind) (shape vs)) (openPart (openOf kind vs)),
-          card-length kind (length c) today 0 0 (omega arith) (omega arith) (omega arith),
+          three-long (cardPart kind (length c) today (verdictOf Fine)) (elementsPart (table kind) (shape vs)) (openPart (openOf kind vs)),
+          card-length kind (length c) today (verdictOf Fine) (omega arith) (omega arith) (omega arith),
           elements-length kind today vs a,
           open-length kind today vs a,
         )
     go (fault f) e =
         simp length-append
-        (omega (arith, card-length kind (length c) today _ (f .place) (omega arith) (number-small (f .fault)) (omega (arith, placed kind today c f (named kind today c b f e)))))
+        (omega (arith, card-length kind (length c) today (verdictOf (Broken f)) (omega arith) (number-small (f .fault)) (omega (arith, placed kind today c f (named kind today c b f e)))))

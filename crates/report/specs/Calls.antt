@@ -6,7 +6,7 @@ use lib.Dec.{ltb, leb}
 use lib.ListN.{length}
 use Rattle.dates.specs.Date.{isDate}
 use Rattle.kinds.specs.Tables.{isKind}
-use Rattle.verdicts.specs.Verdicts.{found}
+use Rattle.verdicts.specs.Verdicts.{outright}
 use Rattle.verdicts.specs.Output.{Output, refusal, text}
 use Rattle.verdicts.specs.declared.Fault.the-variants.{UnknownKind, NoDate, SmallRoom, LargeContainer, LongReport}
 use Rattle.container.specs.Container.{largest}
@@ -14,13 +14,13 @@ use Rattle.container.specs.Reading.{parsed}
 use Rattle.report.specs.Report.{reportText}
 
 abbrev pub fitting : List ℕ → Output
-fitting t = cond (ltb 512 (length t)) (refusal (found LongReport 0)) (text t)
+fitting t = cond (ltb 512 (length t)) (refusal (outright LongReport)) (text t)
 
 unfoldable pub reportOutput : ℕ → ℕ → List ℕ → ℕ → Output
 reportOutput kind today c room =
     cond (isKind kind)
     (cond (isDate today)
-    (cond (ltb room 512) (refusal (found SmallRoom 0))
-    (cond (leb (length c) largest) (fitting (reportText kind today (length c) (parsed kind today c))) (refusal (found LargeContainer 0))))
-    (refusal (found NoDate 0)))
-    (refusal (found UnknownKind 0))
+    (cond (ltb room 512) (refusal (outright SmallRoom))
+    (cond (leb (length c) largest) (fitting (reportText kind today (length c) (parsed kind today c))) (refusal (outright LargeContainer))))
+    (refusal (outright NoDate)))
+    (refusal (outright UnknownKind))

@@ -3,7 +3,8 @@
 use Prim.Native.Nat.{ℕ}
 use mathlib.Core.List.{List, _++_}
 use Rattle.texts.specs.Text.{ascii}
-use Rattle.verdicts.specs.Verdicts.{numberOf}
+use Rattle.verdicts.specs.Verdicts.{verdictOf}
+use Rattle.verdicts.specs.declared.Outcome.the-variants.{Fine, Broken}
 use Rattle.kinds.specs.Tables.{table}
 use Rattle.container.specs.Reading.{Parsed, values, fault}
 use Rattle.card.specs.Card.{cardPart}
@@ -12,5 +13,5 @@ use Rattle.opens.specs.Open.{openOf, openPart}
 
 -- the report of a container of so many bytes
 unfoldable pub reportText : ℕ → ℕ → ℕ → Parsed (List ℕ) → List ℕ
-reportText kind today size (values vs) = cardPart kind size today 0 0 ++ elementsPart (table kind) (shape vs) ++ openPart (openOf kind vs)
-reportText kind today size (fault f) = cardPart kind size today (numberOf (f .fault)) (f .place) ++ ascii "ELEMENTS 0\nOPEN 0\n"
+reportText kind today size (values vs) = cardPart kind size today (verdictOf Fine) ++ elementsPart (table kind) (shape vs) ++ openPart (openOf kind vs)
+reportText kind today size (fault f) = cardPart kind size today (verdictOf (Broken f)) ++ ascii "ELEMENTS 0\nOPEN 0\n"

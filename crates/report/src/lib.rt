@@ -22,7 +22,13 @@ fn put_fine(kind: u64, today: u64, c: &[u8], map: Map, out: &mut [u8]) -> usize
     requires { ⌜ ((today : ℕ) × Allowed today (table kind) (rowValues (map .from) (map .to) (now c) (length (table kind)) 0)) ⌝ }
     ensures { λ r. ⌜ Put (reportText kind today (length (now (c .entry))) (values (rowValues (map .from) (map .to) (now (c .entry)) (length (table kind)) 0))) (now (out .entry)) (now (out .exit)) r ⌝ }
 {
-    let mut at = card::put_card(kind, c.len(), today, 0, 0, out);
+    let mut at = card::put_card(
+        kind,
+        c.len(),
+        today,
+        verdicts::verdict_of(Outcome::Fine),
+        out,
+    );
     at += elements::put_elements(kind, map, &mut out[at..]);
     at + opens::put_open(kind, c, map, &mut out[at..])
 }
@@ -31,8 +37,13 @@ fn put_fine(kind: u64, today: u64, c: &[u8], map: Map, out: &mut [u8]) -> usize
 fn put_broken(kind: u64, today: u64, size: usize, f: Finding, out: &mut [u8]) -> usize
     ensures { λ r. ⌜ Put (reportText kind today size (fault f)) (now (out .entry)) (now (out .exit)) r ⌝ }
 {
-    let fault = f.fault;
-    let at = card::put_card(kind, size, today, verdicts::number_of(fault), f.place, out);
+    let at = card::put_card(
+        kind,
+        size,
+        today,
+        verdicts::verdict_of(Outcome::Broken(f)),
+        out,
+    );
     at + room::put_all(b"ELEMENTS 0\nOPEN 0\n", &mut out[at..])
 }
 
@@ -54,21 +65,21 @@ pub fn report(kind: u64, today: u64, container: &[u8], room: &mut [u8]) -> Done
 {
     room::clear(room);
     if !kinds::is_kind(kind) {
-        return verdicts::refused(verdicts::found(Fault::UnknownKind, 0));
+        return verdicts::refused(verdicts::outright(Fault::UnknownKind));
     }
     if !dates::is_date(today) {
-        return verdicts::refused(verdicts::found(Fault::NoDate, 0));
+        return verdicts::refused(verdicts::outright(Fault::NoDate));
     }
     if room.len() < 512 {
-        return verdicts::refused(verdicts::found(Fault::SmallRoom, 0));
+        return verdicts::refused(verdicts::outright(Fault::SmallRoom));
     }
     if container::too_large(container.len()) {
-        return verdicts::refused(verdicts::found(Fault::LargeContainer, 0));
+        return verdicts::refused(verdicts::outright(Fault::LargeContainer));
     }
     let length = put_report(kind, today, container, room);
     if 512 < length {
         room::clear(room);
-        return verdicts::refused(verdicts::found(Fault::LongReport, 0));
+        return verdicts::refused(verdicts::outright(Fault::LongReport));
     }
     verdicts::wrote(length)
 }

@@ -22,6 +22,7 @@ use Rattle.rules.specs.Rules.{ruleOf}
 use Rattle.verdicts.specs.Verdicts.{found}
 use Rattle.verdicts.specs.declared.Fault.{Fault}
 use Rattle.verdicts.specs.declared.Fault.the-variants.{MissingRow, ElementLength}
+use Rattle.verdicts.specs.declared.Tag.the-variants.{Of}
 use Rattle.verdicts.specs.declared.Ruling.{Ruling}
 use Rattle.verdicts.specs.declared.Ruling.the-variants.{Kept, Breaks}
 use Rattle.container.specs.Container.{Values, tagBytes, has, encode}
@@ -102,7 +103,7 @@ by-row today v (suc n) (x ∷ rows) i from {r} d e =
     rw (other-tag (x .tag) n rows (d .0) e)
     (by-row today v n rows (i + 1) (cond (x .optional) from (i + 1)) (d .1) e)
 
-judged-some : (today : ℕ) (r : Entry) (rs : Table) (v : List ℕ) (vs : Values) (at : ℕ) → judged today (r ∷ rs) (some v ∷ vs) at ≡ keptOr (judgedAs r today v) at (judged today rs vs (at + 2 + length v))
+judged-some : (today : ℕ) (r : Entry) (rs : Table) (v : List ℕ) (vs : Values) (at : ℕ) → judged today (r ∷ rs) (some v ∷ vs) at ≡ keptOr (judgedAs r today v) at (r .tag) (judged today rs vs (at + 2 + length v))
 judged-some today r rs v vs at =
     elim (which (permitted (r .lengths) (length v))) [
       | inl p ↦ rw p
@@ -155,9 +156,9 @@ module _ (kind : ℕ) (s from to : List ℕ) where
       text-absent = rw (vals-absent, k .split)
 
       module _ (today at size : ℕ) where
-        pub body-missing : optional ≡ false → Refuse (found MissingRow at) ≡ bodyFrom today i at size
+        pub body-missing : optional ≡ false → Refuse (found MissingRow at (Of tag)) ≡ bodyFrom today i at size
         unfolding bodyFrom
-        body-missing o = rw (vals-absent, k .split, k .optional-is, o)
+        body-missing o = rw (vals-absent, k .split, k .optional-is, o, k .tag-is)
 
         pub body-absent : optional ≡ true → bodyFrom today (i + 1) (at + 2) size ≡ bodyFrom today i at size
         unfolding bodyFrom
@@ -176,12 +177,12 @@ module _ (kind : ℕ) (s from to : List ℕ) where
       text-value = rw (vals-value, k .split, k .tag-is) (simp append-assoc)
 
       module _ (today at size : ℕ) where
-        judged-value : judged today (drop i (table kind)) (vals i) at ≡ keptOr (judgedBy (rowOf kind tag) today v) at (judged today (drop (i + 1) (table kind)) (vals (i + 1)) (at + 2 + length v))
+        judged-value : judged today (drop i (table kind)) (vals i) at ≡ keptOr (judgedBy (rowOf kind tag) today v) at tag (judged today (drop (i + 1) (table kind)) (vals (i + 1)) (at + 2 + length v))
         judged-value =
             let q : judgedBy (rowOf kind tag) today v ≡ judgedAs (k .row) today v = rw (← k .tag-is) (by-row today v i (table kind) 0 0 (distinct kind) (k .split)) in
-            rw (vals-value, k .split, q) (judged-some today (k .row) (drop (i + 1) (table kind)) v (vals (i + 1)) at)
+            rw (vals-value, k .split, q, ← k .tag-is) (judged-some today (k .row) (drop (i + 1) (table kind)) v (vals (i + 1)) at)
 
-        pub body-broken : {f : Fault} → Breaks f ≡ judgedBy (rowOf kind tag) today v → Refuse (found f at) ≡ bodyFrom today i at size
+        pub body-broken : {f : Fault} → Breaks f ≡ judgedBy (rowOf kind tag) today v → Refuse (found f at (Of tag)) ≡ bodyFrom today i at size
         unfolding bodyFrom
         body-broken b = rw (judged-value, ← b)
 

@@ -10,7 +10,7 @@ use lib.ListN.{length}
 use Rattle.laws.proofs.Cases.{which}
 use Rattle.dates.specs.Date.{isDate}
 use Rattle.kinds.specs.Tables.{table, isKind}
-use Rattle.verdicts.specs.Verdicts.{found}
+use Rattle.verdicts.specs.Verdicts.{outright}
 use Rattle.verdicts.specs.declared.Fault.the-variants.{UnknownKind, NoDate, TornSheet}
 use Rattle.verdicts.specs.declared.Finding.{Finding}
 use Rattle.verdicts.specs.declared.Outcome.{Outcome}
@@ -29,11 +29,11 @@ is-takes Fine m e = cc
 is-takes (Broken f) m e = absurd (no-takes e)
 
 module _ (kind today : ℕ) (s : List ℕ) where
-  pub bad-kind : isKind kind ≡ false → Refuse (found UnknownKind 0) ≡ planFor kind today s
+  pub bad-kind : isKind kind ≡ false → Refuse (outright UnknownKind) ≡ planFor kind today s
   unfolding planFor
   bad-kind k = rw k
 
-  pub bad-date : isKind kind ≡ true → isDate today ≡ false → Refuse (found NoDate 0) ≡ planFor kind today s
+  pub bad-date : isKind kind ≡ true → isDate today ≡ false → Refuse (outright NoDate) ≡ planFor kind today s
   unfolding planFor
   bad-date k d = rw (k, d)
 
@@ -48,7 +48,7 @@ module _ (kind today : ℕ) (s : List ℕ) where
     is-whole w = a .opens ∙ rw w
 
     module _ (k : isKind kind ≡ true) (d : isDate today ≡ true) where
-      pub torn-sheet : x .whole ≡ false → Refuse (found TornSheet 0) ≡ planFor kind today s
+      pub torn-sheet : x .whole ≡ false → Refuse (outright TornSheet) ≡ planFor kind today s
       unfolding planFor
       torn-sheet w = rw (k, d, is-torn w)
 

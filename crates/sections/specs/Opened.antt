@@ -9,6 +9,7 @@ use Rattle.kinds.specs.Tables.{Table, permitted}
 use Rattle.rules.specs.Rules.{ruleOf}
 use Rattle.verdicts.specs.Verdicts.{found}
 use Rattle.verdicts.specs.declared.Fault.the-variants.{MissingRow, ElementLength}
+use Rattle.verdicts.specs.declared.Tag.the-variants.{Of}
 use Rattle.verdicts.specs.declared.Ruling.{Ruling}
 use Rattle.verdicts.specs.declared.Ruling.the-variants.{Kept, Breaks}
 use Rattle.verdicts.specs.declared.Outcome.{Outcome}
@@ -31,15 +32,16 @@ opened (r ∷ rs) (a ∷ b ∷ s) =
     (cond (ltb (length s) (a * 256 + b - 1)) none
     (ahead (some (take (a * 256 + b - 1) s)) (opened rs (drop (a * 256 + b - 1) s))))
 
--- ---- the values judged, row by row, with the place of the row's count
+-- ---- the values judged, row by row, with the place of the row's count. 2026-02: "a written sheet's verdict names the row's tag"
 
-abbrev pub keptOr : Ruling → ℕ → Outcome → Outcome
-keptOr Kept at later = later
-keptOr (Breaks f) at later = Broken (found f at)
+abbrev pub keptOr : Ruling → ℕ → ℕ → Outcome → Outcome
+keptOr Kept at tag later = later
+keptOr (Breaks f) at tag later = Broken (found f at (Of tag))
 
 abbrev pub judged : ℕ → Table → Values → ℕ → Outcome
 judged today [] vs at = Fine
 judged today (r ∷ rs) [] at = Fine
-judged today (r ∷ rs) (none ∷ vs) at = cond (r .optional) (judged today rs vs (at + 2)) (Broken (found MissingRow at))
+judged today (r ∷ rs) (none ∷ vs) at = cond (r .optional) (judged today rs vs (at + 2)) (Broken (found MissingRow at (Of (r .tag))))
 judged today (r ∷ rs) (some v ∷ vs) at =
-    cond (permitted (r .lengths) (length v)) (keptOr (ruleOf (r .rule) today v) at (judged today rs vs (at + 2 + length v))) (Broken (found ElementLength at))
+    cond (permitted (r .lengths) (length v)) (keptOr (ruleOf (r .rule) today v) at (r .tag) (judged today rs vs (at + 2 + length v)))
+    (Broken (found ElementLength at (Of (r .tag))))

@@ -9,7 +9,7 @@ use Rattle.kinds.specs.Tables.{table, permits, isKind}
 use Rattle.kinds.specs.declared.Row.{Row}
 use Rattle.kinds.specs.declared.Row.the-variants.{At, Missing}
 use Rattle.rules.specs.Rules.{ruleOf}
-use Rattle.verdicts.specs.Verdicts.{found}
+use Rattle.verdicts.specs.Verdicts.{outright}
 use Rattle.verdicts.specs.declared.Fault.the-variants.{UnknownKind, NoDate, TornSheet, UnknownTag, ElementLength}
 use Rattle.verdicts.specs.declared.Ruling.{Ruling}
 use Rattle.verdicts.specs.declared.Ruling.the-variants.{Breaks}
@@ -59,14 +59,14 @@ Small (Takes n) = n ≤ 16 * (furthest + 5)
 -- ---- the whole: 1, 2, 5, then the second pass
 
 abbrev pub openedPlan : ℕ → ℕ → Option Values → Plan
-openedPlan kind today none = Refuse (found TornSheet 0)
+openedPlan kind today none = Refuse (outright TornSheet)
 openedPlan kind today (some vs) = planOf (judged today (table kind) vs 0) (length (encode (table kind) vs))
 
 unfoldable pub planFor : ℕ → ℕ → List ℕ → Plan
 planFor kind today s =
     cond (isKind kind)
-    (cond (isDate today) (openedPlan kind today (opened (table kind) s)) (Refuse (found NoDate 0)))
-    (Refuse (found UnknownKind 0))
+    (cond (isDate today) (openedPlan kind today (opened (table kind) s)) (Refuse (outright NoDate)))
+    (Refuse (outright UnknownKind))
 
 -- where nothing is refused the values lie so, and their elements take so many bytes
 pub record Lies (kind : ℕ) (s : List ℕ) (x : Sheet) : Type 0 where

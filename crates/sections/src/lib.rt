@@ -7,7 +7,8 @@ ghost use lib.ListN.{length};
 ghost use Rattle.laws.specs.Room.{zeros};
 ghost use Rattle.kinds.specs.Tables.{table, rowOf, permits};
 ghost use Rattle.lengths.specs.Length.{lengthBytes};
-ghost use Rattle.verdicts.specs.Verdicts.{found};
+ghost use Rattle.verdicts.specs.Verdicts.{outright, found};
+ghost use Rattle.verdicts.specs.declared.Tag.the-variants.{Of};
 ghost use Rattle.container.specs.Container.{tagBytes, encode};
 ghost use Rattle.container.specs.Map.{Inside};
 ghost use Rattle.sections.specs.declared.Plan.the-variants.{Refuse};
@@ -20,6 +21,7 @@ use kinds::ValueRule;
 use verdicts::Fault;
 use verdicts::Finding;
 use verdicts::Ruling;
+use verdicts::Tag;
 
 // What is to be done with a sheet.
 pub enum Plan {
@@ -43,11 +45,18 @@ struct Places {
     to: [u32; 16],
 }
 
-// A refusal, with its place.
-fn refuse(f: Fault, place: usize) -> Plan
-    ensures { λ r. ⌜ r ≡ Refuse (found f place) ⌝ }
+// A refusal of the whole, which is about no row.
+fn refuse(f: Fault) -> Plan
+    ensures { λ r. ⌜ r ≡ Refuse (outright f) ⌝ }
 {
-    Plan::Refuse(verdicts::found(f, place))
+    Plan::Refuse(verdicts::outright(f))
+}
+
+// A refusal of a row: the place of its count, and its tag, also where the row is missing.
+fn refuse_row(f: Fault, place: usize, tag: u64) -> Plan
+    ensures { λ r. ⌜ r ≡ Refuse (found f place (Of tag)) ⌝ }
+{
+    Plan::Refuse(verdicts::found(f, place, Tag::Of(tag)))
 }
 
 // A sheet that is cut short: nothing lies anywhere.
@@ -126,7 +135,7 @@ fn judge_value(kind: u64, today: u64, tag: u64, v: &[u8]) -> Ruling
     }
 }
 
-// A second pass: "row by row 15, 16 and the value's rules, with the place of the row's count".
+// A second pass: "row by row 15, 16 and the value's rules, with the place of the row's count", and with the row's tag.
 fn judge_rows(kind: u64, today: u64, s: &[u8], x: Places) -> Plan
     requires { ⌜ Inside (x .from) (x .to) (length (now s)) × Inside (x .from) (x .to) furthest ⌝ }
     ensures { λ r. ⌜ r ≡ planOf (judged today (table kind) (lying kind (x .from) (x .to) (now (s .entry))) 0) (length (encode (table kind) (lying kind (x .from) (x .to) (now (s .entry))))) ⌝ }
@@ -146,12 +155,12 @@ fn judge_rows(kind: u64, today: u64, s: &[u8], x: Places) -> Plan
         row += 1;
         if to == 0 {
             if !optional {
-                return refuse(Fault::MissingRow, at);
+                return refuse_row(Fault::MissingRow, at, tag);
             }
             at += 2;
         } else {
             if let Ruling::Breaks(f) = judge_value(kind, today, tag, &s[from..to]) {
-                return refuse(f, at);
+                return refuse_row(f, at, tag);
             }
             let n = to - from;
             size += element_length(tag, n);
@@ -168,13 +177,13 @@ fn planned(kind: u64, today: u64, s: &[u8], x: Places) -> Plan
     ensures { λ r. ⌜ Small r ⌝ }
 {
     if !kinds::is_kind(kind) {
-        return refuse(Fault::UnknownKind, 0);
+        return refuse(Fault::UnknownKind);
     }
     if !dates::is_date(today) {
-        return refuse(Fault::NoDate, 0);
+        return refuse(Fault::NoDate);
     }
     if !x.whole {
-        return refuse(Fault::TornSheet, 0);
+        return refuse(Fault::TornSheet);
     }
     judge_rows(kind, today, s, x)
 }

@@ -7,6 +7,7 @@ ghost use lib.ListN.{length};
 ghost use Rattle.laws.specs.Room.{laid, Put};
 ghost use Rattle.verdicts.specs.Verdicts.{numberOf};
 ghost use Rattle.verdicts.specs.declared.Fault.the-variants.{SmallRoom};
+ghost use Rattle.verdicts.specs.declared.Tag.the-variants.{NoTag};
 ghost use Rattle.kinds.specs.Tables.{table};
 ghost use Rattle.container.specs.Container.{largest};
 ghost use Rattle.container.specs.Map.{Inside, rowValues};
@@ -16,6 +17,7 @@ ghost use Rattle.sheet.specs.Calls.{Given, Says};
 use container::Map;
 use verdicts::Done;
 use verdicts::Outcome;
+use verdicts::Tag;
 use verdicts::Verdict;
 
 // What a check answers: the verdict; 3 where it is 0 and the lent room is under the sheet's length, else 0; and how long the
@@ -74,11 +76,12 @@ fn put_sheet(kind: u64, c: &[u8], map: Map, out: &mut [u8]) -> usize
 
 // 3: the room is too small, and nothing was written.
 fn too_small() -> Done
-    ensures { λ r. ⌜ r ≡ record { number = numberOf SmallRoom; place = 0; length = 0 } ⌝ }
+    ensures { λ r. ⌜ r ≡ record { number = numberOf SmallRoom; place = 0; tag = NoTag; length = 0 } ⌝ }
 {
     Done {
         number: 3,
         place: 0,
+        tag: Tag::NoTag,
         length: 0,
     }
 }

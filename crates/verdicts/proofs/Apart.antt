@@ -1,19 +1,20 @@
--- No two faults have one number, and none has 0: so a verdict tells its outcome. Assumes nothing.
+-- No two faults have one number, and none has 0: so a verdict tells its outcome. And no tag has the number that says none. Assumes nothing.
 use Prim.Native.Nat.{ℕ, _<_}
-use mathlib.Core.Path.{_≡_, refl, sym, ap, ap₂, _∙_}
+use mathlib.Core.Path.{_≡_, refl, sym, ap, _∙_}
 use mathlib.Core.List.{List, [], _∷_}
 use native.Mathlib.Omega.{arith}
 use native.Mathlib.Decide.{decLt}
 use lib.ListN.{getD, List·getD-eq-default}
 use Rattle.verdicts.specs.declared.Fault.{Fault}
 use Rattle.verdicts.specs.declared.Fault.the-variants.{UnknownKind, NoDate, SmallRoom, LargeContainer, TornSheet, NoElement, LongNumber, LongReport, OuterTag, LengthForm, Overrun, UnknownTag, TagOrder, MissingRow, ElementLength, BadFascn, BadUuid, BadDate, BadFixed, BadHeader, BadMinutiae, BadText, BadDer, TooDeep}
+use Rattle.verdicts.specs.declared.Tag.the-variants.{NoTag, Of}
 use Rattle.verdicts.specs.declared.Finding.{Finding}
 use Rattle.verdicts.specs.declared.Outcome.{Outcome}
 use Rattle.verdicts.specs.declared.Outcome.the-variants.{Fine, Broken}
 use Rattle.verdicts.specs.declared.Verdict.{Verdict}
-use Rattle.verdicts.specs.Verdicts.{numberOf, found, verdictOf}
+use Rattle.verdicts.specs.Verdicts.{numberOf, tagNumber, outright, verdictOf}
 
--- the outcomes by their numbers, each at the place 0
+-- the outcomes by their numbers, each of the whole
 byNumber : List Outcome
 byNumber =
     Fine ∷ b UnknownKind ∷ b NoDate ∷ b SmallRoom ∷ b LargeContainer ∷ b TornSheet ∷ b NoElement ∷ b LongNumber ∷ b LongReport ∷ Fine ∷ b OuterTag
@@ -21,10 +22,10 @@ byNumber =
     ∷ b BadHeader ∷ b BadMinutiae ∷ b BadText ∷ b BadDer ∷ b TooDeep ∷ []
   where
     b : Fault → Outcome
-    b f = Broken (found f 0)
+    b f = Broken (outright f)
 
 -- a fault stands at its number
-stands : (f : Fault) → getD byNumber (numberOf f) Fine ≡ Broken (found f 0)
+stands : (f : Fault) → getD byNumber (numberOf f) Fine ≡ Broken (outright f)
 unfolding byNumber
 stands f =
     elim f [
@@ -57,14 +58,14 @@ stands f =
 pub never-zero : (f : Fault) → numberOf f ≡ 0 → ⊥
 unfolding byNumber
 never-zero f e =
-    let p : Broken (found f 0) ≡ Fine = sym (stands f) ∙ ap (λ (n : ℕ). getD byNumber n Fine) e in
+    let p : Broken (outright f) ≡ Fine = sym (stands f) ∙ ap (λ (n : ℕ). getD byNumber n Fine) e in
     let z : _≡_ {A = ℕ} 0 1 = cc in
     omega arith
 
 pub one-fault : (f g : Fault) → numberOf f ≡ numberOf g → f ≡ g
 one-fault f g e =
-    let p : Broken (found f 0) ≡ Broken (found g 0) = sym (stands f) ∙ ap (λ (n : ℕ). getD byNumber n Fine) e ∙ stands g in
-    let q : found f 0 ≡ found g 0 = cc in
+    let p : Broken (outright f) ≡ Broken (outright g) = sym (stands f) ∙ ap (λ (n : ℕ). getD byNumber n Fine) e ∙ stands g in
+    let q : outright f ≡ outright g = cc in
     ap (λ (x : Finding). x .fault) q
 
 -- every number has at most two digits
@@ -74,7 +75,7 @@ number-small f =
     elim (decLt (numberOf f) 26) [
       | yes h ↦ omega arith
       | no h ↦
-          let p : Fine ≡ Broken (found f 0) = sym (List·getD-eq-default byNumber Fine {n = numberOf f} (omega arith)) ∙ stands f in
+          let p : Fine ≡ Broken (outright f) = sym (List·getD-eq-default byNumber Fine {n = numberOf f} (omega arith)) ∙ stands f in
           let z : _≡_ {A = ℕ} 0 1 = cc in
           absurd (omega arith)
     ]
@@ -85,4 +86,9 @@ one-outcome Fine Fine e = refl
 one-outcome Fine (Broken g) e = absurd (never-zero (g .fault) (sym (ap (λ (v : Verdict). v .number) e)))
 one-outcome (Broken f) Fine e = absurd (never-zero (f .fault) (ap (λ (v : Verdict). v .number) e))
 one-outcome (Broken f) (Broken g) e =
-    ap Broken (ap₂ found (one-fault (f .fault) (g .fault) (ap (λ (v : Verdict). v .number) e)) (ap (λ (v : Verdict). v .place) e))
+    let k = one-fault (f .fault) (g .fault) (ap (λ (v : Verdict). v .number) e) in
+    λ i. Broken (record { fault = k i; place = e i .place; tag = e i .tag })
+
+-- none is told by a number that no tag of one byte or two has, nor a byte 00
+pub told-apart : (t : ℕ) → t < 65536 → tagNumber (Of t) ≡ tagNumber NoTag → ⊥
+told-apart t h e = omega arith

@@ -6,10 +6,11 @@ use mathlib.Core.List.{List, []}
 use lib.ListN.{length}
 use Rattle.laws.specs.Room.{filled}
 use Rattle.verdicts.specs.Verdicts.{numberOf}
+use Rattle.verdicts.specs.declared.Tag.the-variants.{NoTag}
 use Rattle.verdicts.specs.declared.Finding.{Finding}
 use Rattle.verdicts.specs.declared.Done.{Done}
 
--- a refusal with its place, or the output
+-- a refusal with its place and its tag, or the output
 pub data Output : Type 0 where
   refusal : Finding → Output
   text : List ℕ → Output
@@ -19,10 +20,10 @@ abbrev pub bytesOf : Output → List ℕ
 bytesOf (refusal f) = []
 bytesOf (text t) = t
 
--- the number, the place, and the length of what was written, 0 on a refusal
+-- the number, the place, the tag, and the length of what was written, 0 on a refusal
 abbrev pub doneOf : Output → Done
-doneOf (refusal f) = record { number = numberOf (f .fault); place = f .place; length = 0 }
-doneOf (text t) = record { number = 0; place = 0; length = length t }
+doneOf (refusal f) = record { number = numberOf (f .fault); place = f .place; tag = f .tag; length = 0 }
+doneOf (text t) = record { number = 0; place = 0; tag = NoTag; length = length t }
 
 -- the whole answer, of a room that was d and is left as e: nothing of it is open
 pub record Leaves (o : Output) (d e : List ℕ) (r : Done) : Type 0 where

@@ -1,7 +1,9 @@
--- 01, "Numbers", and request 2026-04: the number of each fault; and the verdict, a number and a place.
+-- 01, "Numbers", and request 2026-04: the number of each fault; and the verdict, a number, a place and, since 2026-02, the tag of the element there.
 use Prim.Native.Nat.{ℕ}
 use Rattle.verdicts.specs.declared.Fault.{Fault}
 use Rattle.verdicts.specs.declared.Fault.the-variants.{UnknownKind, NoDate, SmallRoom, LargeContainer, TornSheet, NoElement, LongNumber, LongReport, OuterTag, LengthForm, Overrun, UnknownTag, TagOrder, MissingRow, ElementLength, BadFascn, BadUuid, BadDate, BadFixed, BadHeader, BadMinutiae, BadText, BadDer, TooDeep}
+use Rattle.verdicts.specs.declared.Tag.{Tag}
+use Rattle.verdicts.specs.declared.Tag.the-variants.{NoTag, Of}
 use Rattle.verdicts.specs.declared.Finding.{Finding}
 use Rattle.verdicts.specs.declared.Outcome.{Outcome}
 use Rattle.verdicts.specs.declared.Outcome.the-variants.{Fine, Broken}
@@ -37,14 +39,28 @@ numberOf BadText = 23  -- text byte
 numberOf BadDer = 24  -- DER item
 numberOf TooDeep = 25  -- DER item too deep
 
--- a fault and its place
-abbrev pub found : Fault → ℕ → Finding
-found f place = record { fault = f; place = place }
+-- ---- 2026-02: "The verdict record should carry the element's tag"
 
--- "0: conforms or done"; else the fault's number and its place
+-- a tag in numbers. A tag has one byte or two, and "for number 13 the tag is a byte from the card", 00 too: so none has a number that no tag can be
+abbrev pub noTag : ℕ
+noTag = 65536
+
+abbrev pub tagNumber : Tag → ℕ
+tagNumber NoTag = noTag
+tagNumber (Of t) = t
+
+-- "`--` .. for outer faults .. and for numbers that carry no place": a fault of the whole
+abbrev pub outright : Fault → Finding
+outright f = record { fault = f; place = 0; tag = NoTag }
+
+-- a fault, its place, and the tag there
+abbrev pub found : Fault → ℕ → Tag → Finding
+found f place tag = record { fault = f; place = place; tag = tag }
+
+-- "0: conforms or done", and "`--` for 0"; else the fault's number, its place and its tag
 abbrev pub verdictOf : Outcome → Verdict
-verdictOf Fine = record { number = 0; place = 0 }
-verdictOf (Broken f) = record { number = numberOf (f .fault); place = f .place }
+verdictOf Fine = record { number = 0; place = 0; tag = NoTag }
+verdictOf (Broken f) = record { number = numberOf (f .fault); place = f .place; tag = f .tag }
 
 -- ---- the answer of a rule
 

@@ -1,6 +1,7 @@
-// The faults that 01 and the requests number, and the verdict: a number and its place.
+// The faults that 01 and the requests number, and the verdict: a number, its place, and the tag of the element there.
 ghost use mathlib.Core.Path.{_≡_};
-ghost use Rattle.verdicts.specs.Verdicts.{numberOf, found, verdictOf};
+ghost use Rattle.verdicts.specs.Verdicts.{numberOf, tagNumber, outright, found, verdictOf};
+ghost use Rattle.verdicts.specs.declared.Tag.the-variants.{NoTag};
 ghost use Rattle.verdicts.specs.Output.{refusal, doneOf};
 
 // What can be wrong, in the order of 01's table of numbers.
@@ -37,10 +38,19 @@ pub enum Ruling {
     Breaks(Fault),
 }
 
-// What was found wrong: a fault, and its place. 01's numbers that carry no place have the place 0.
+// Which element a finding is about: none, or the one with this tag. A byte 00 may stand where a tag should, so no number of a
+// tag can mean none.
+pub enum Tag {
+    NoTag,
+    Of(u64),
+}
+
+// What was found wrong: a fault, its place, and the tag of the element there. 01's numbers that carry no place have the place 0
+// and no tag.
 pub struct Finding {
     pub fault: Fault,
     pub place: usize,
+    pub tag: Tag,
 }
 
 // What a walk answers: nothing is wrong, or the first finding.
@@ -49,16 +59,18 @@ pub enum Outcome {
     Broken(Finding),
 }
 
-// The same in 01's numbers: 0 and 0, or the fault's number and its place.
+// The same in 01's numbers: 0, 0 and no tag, or the fault's number, its place and its tag.
 pub struct Verdict {
     pub number: u64,
     pub place: u64,
+    pub tag: Tag,
 }
 
-// What a call answers that writes into a lent room: the number, the place, and the length of what was written.
+// What a call answers that writes into a lent room: the number, the place, the tag, and the length of what was written.
 pub struct Done {
     pub number: u64,
     pub place: u64,
+    pub tag: Tag,
     pub length: u64,
 }
 
@@ -94,13 +106,35 @@ pub fn number_of(f: Fault) -> u64
     }
 }
 
-// A finding with its place.
-pub fn found(fault: Fault, place: usize) -> Finding
-    ensures { λ r. ⌜ r ≡ found fault place ⌝ }
+// The tag as a number, for a caller who has no enum: 65536 is none, and no tag, which has one byte or two.
+pub fn tag_number(tag: Tag) -> u64
+    ensures { λ r. ⌜ r ≡ tagNumber tag ⌝ }
+{
+    match tag {
+        Tag::NoTag => 65536,
+        Tag::Of(t) => t,
+    }
+}
+
+// A finding that is about no element: its place is 0.
+pub fn outright(fault: Fault) -> Finding
+    ensures { λ r. ⌜ r ≡ outright fault ⌝ }
+{
+    Finding {
+        fault: fault,
+        place: 0,
+        tag: Tag::NoTag,
+    }
+}
+
+// A finding with its place and its tag.
+pub fn found(fault: Fault, place: usize, tag: Tag) -> Finding
+    ensures { λ r. ⌜ r ≡ found fault place tag ⌝ }
 {
     Finding {
         fault: fault,
         place: place,
+        tag: tag,
     }
 }
 
@@ -111,36 +145,42 @@ pub fn verdict_of(o: Outcome) -> Verdict
         Outcome::Fine => Verdict {
             number: 0,
             place: 0,
+            tag: Tag::NoTag,
         },
         Outcome::Broken(f) => {
             let fault = f.fault;
+            let tag = f.tag;
             Verdict {
                 number: number_of(fault),
                 place: f.place as u64,
+                tag: tag,
             }
         }
     }
 }
 
-// A refusal, with its place.
+// A refusal, with its place and its tag.
 pub fn refused(f: Finding) -> Done
     ensures { λ r. ⌜ r ≡ doneOf (refusal f) ⌝ }
 {
     let fault = f.fault;
+    let tag = f.tag;
     Done {
         number: number_of(fault),
         place: f.place as u64,
+        tag: tag,
         length: 0,
     }
 }
 
 // A success: so many bytes were written.
 pub fn wrote(length: usize) -> Done
-    ensures { λ r. ⌜ r ≡ record { number = 0; place = 0; length = length } ⌝ }
+    ensures { λ r. ⌜ r ≡ record { number = 0; place = 0; tag = NoTag; length = length } ⌝ }
 {
     Done {
         number: 0,
         place: 0,
+        tag: Tag::NoTag,
         length: length as u64,
     }
 }

@@ -12,17 +12,18 @@ use lib.ListN.{length, take, drop, getD}
 use borrow.Author.Tests.{eq-eqb, ne-eqb}
 use Rattle.laws.specs.Bytes.{Bytes}
 use Rattle.laws.proofs.Cases.{which}
-use Rattle.verdicts.specs.Verdicts.{numberOf}
+use Rattle.verdicts.specs.Verdicts.{outright, verdictOf}
 use Rattle.verdicts.specs.declared.Fault.the-variants.{NoElement}
+use Rattle.verdicts.specs.declared.Outcome.the-variants.{Fine, Broken}
 use Rattle.kinds.specs.Tables.{Table, table, first, rowAt}
 use Rattle.kinds.specs.declared.Slot.the-variants.{Holds, End}
 use Rattle.container.specs.Container.{Values, has, Conforms}
-use Rattle.container.specs.Reading.{values, Part, valuesOf, located}
+use Rattle.container.specs.Reading.{Parsed, values, fault, Part, valuesOf, located, parsed, outcome, verdict}
 use Rattle.container.proofs.Rows.{Distinct}
 use Rattle.container.proofs.Tags.{distinct}
 use Rattle.container.proofs.Lying.{Stands, stands}
 use Rattle.container.proofs.Promise.{conforms-located}
-use Rattle.views.specs.Views.{View, partOf, placeOf, nothing, shown, viewed}
+use Rattle.views.specs.Views.{View, partOf, placeOf, nothing, shown, viewOf, viewed}
 use Rattle.views.proofs.Placing.{placed}
 use Rattle.views.proofs.Ways.{picked, by-parts}
 
@@ -83,18 +84,27 @@ no-value-part (some p ∷ ps) (suc i) e = no-value-part ps i e
 -- ---- the theorems
 
 abbrev pub absentView : View
-absentView = record { number = numberOf NoElement; place = 0; part = nothing }
+absentView = record { verdict = verdictOf (Broken (outright NoElement)); part = nothing }
 
 -- a view that shows a value: 0, and the value's bytes in c, where the part says
 pub record Shows (c v : List ℕ) (w : View) : Type 0 where
-  pub number : w .number ≡ 0
-  pub place : w .place ≡ 0
+  pub verdict : w .verdict ≡ verdictOf Fine
   pub value : w .part .bytes ≡ v
   pub inside : w .part .offset + length v ≤ length c
   pub stands : take (length v) (drop (w .part .offset) c) ≡ v
 
 shows : (c v : List ℕ) (w : View) (p : Part) → Stands c p → p .bytes ≡ v → w ≡ shown (some p) → Shows c v w
-shows c v w p s q e = rw (e, ← q) (record { number = refl; place = refl; value = refl; inside = s .within; stands = s .bytes })
+shows c v w p s q e = rw (e, ← q) (record { verdict = refl; value = refl; inside = s .within; stands = s .bytes })
+
+-- what the check refuses the view refuses, with the check's verdict
+pub refused-view : (kind today : ℕ) (c : List ℕ) (element : ℕ) → (verdict kind today c .number ≡ 0 → ⊥)
+    → viewed kind today c element ≡ record { verdict = verdict kind today c; part = nothing }
+unfolding viewed outcome parsed
+refused-view kind today c element n = go (located kind today c) refl
+  where
+    go : (p : Parsed Part) → located kind today c ≡ p → viewOf kind (located kind today c) element ≡ record { verdict = verdict kind today c; part = nothing }
+    go (values ps) e = absurd (n (rw e))
+    go (fault f) e = rw e
 
 module _ (kind today : ℕ) (c : List ℕ) (b : Bytes c) (vs : Values) (h : Conforms kind today vs c) where
   -- what is read of it

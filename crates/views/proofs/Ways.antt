@@ -12,7 +12,9 @@ use lib.ListN.{length, take, drop, getD, List·getD-eq-default}
 use borrow.Author.Tests.{ne-eqb}
 use Rattle.laws.specs.Bytes.{Bytes}
 use Rattle.laws.proofs.Cases.{which}
-use Rattle.verdicts.specs.Verdicts.{numberOf}
+use Rattle.verdicts.specs.Verdicts.{verdictOf}
+use Rattle.verdicts.specs.declared.Outcome.the-variants.{Fine, Broken}
+use Rattle.verdicts.specs.declared.Verdict.{Verdict}
 use Rattle.verdicts.specs.declared.Finding.{Finding}
 use Rattle.kinds.specs.Tables.{Table, table, find, rowOf}
 use Rattle.kinds.specs.declared.Row.{Row}
@@ -26,12 +28,11 @@ use Rattle.views.specs.Views.{View, partOf, shown, viewed, Locates}
 use Rattle.views.specs.ByMap.{absence, byMap}
 
 -- a part that lies so
-located-so : {v : View} (c : List ℕ) {n q from to : ℕ} {s : List ℕ} → v ≡ record { number = n; place = q; part = record { offset = from; bytes = s } }
-    → to ≡ from + length s → to ≤ length c → take (to - from) (drop from c) ≡ s → Locates v c (record { number = n; place = q; from = from; to = to })
+located-so : {v : View} (c : List ℕ) {w : Verdict} {from to : ℕ} {s : List ℕ} → v ≡ record { verdict = w; part = record { offset = from; bytes = s } }
+    → to ≡ from + length s → to ≤ length c → take (to - from) (drop from c) ≡ s → Locates v c (record { verdict = w; from = from; to = to })
 located-so c e t i b =
     record {
-      number-is = ap (λ (v : View). v .number) (sym e);
-      place-is = ap (λ (v : View). v .place) (sym e);
+      verdict-is = ap (λ (v : View). v .verdict) (sym e);
       from-is = ap (λ (v : View). v .part .offset) (sym e);
       to-is = t ∙ ap (λ (v : View). v .part .offset + length (v .part .bytes)) (sym e);
       inside = i;
@@ -82,7 +83,7 @@ picked c (some q ∷ ps) a (suc i) p e = picked c ps (a .1) i p e
 
 module _ (kind today : ℕ) (c : List ℕ) (tag : ℕ) where
   -- the check refuses
-  pub out-broken : {f : Finding} {n : ℕ} → located kind today c ≡ fault f → n ≡ numberOf (f .fault) → Locates (viewed kind today c tag) c (record { number = n; place = f .place; from = 0; to = 0 })
+  pub out-broken : {f : Finding} {w : Verdict} → located kind today c ≡ fault f → w ≡ verdictOf (Broken f) → Locates (viewed kind today c tag) c (record { verdict = w; from = 0; to = 0 })
   unfolding viewed
   out-broken {f} e i = located-so c (rw (e, i)) refl (omega arith) refl
 
@@ -94,7 +95,7 @@ module _ (kind today : ℕ) (c : List ℕ) (tag : ℕ) where
 
     -- a row of the table: what the map has of it
     in-row : (i : ℕ) (o : Option Part) → partOf (table kind) ps tag ≡ o → getD ps i none ≡ o → {from to : ℕ} → from ≡ startOf o → to ≡ endOf o
-        → Locates (viewed kind today c tag) c (cond (eqb to 0) absence (record { number = 0; place = 0; from = from; to = to }))
+        → Locates (viewed kind today c tag) c (cond (eqb to 0) absence (record { verdict = verdictOf Fine; from = from; to = to }))
     in-row i none q g f t = rw t (located-so c (by-parts ∙ ap shown q) refl (omega arith) refl)
     in-row i (some p) q g f t =
         let s = picked c ps (stands kind today c b ps e) i p g in

@@ -6,11 +6,12 @@ ghost use Rattle.views.specs.Views.{viewed, Locates, Answers};
 use container::Map;
 use kinds::Row;
 use verdicts::Outcome;
+use verdicts::Tag;
+use verdicts::Verdict;
 
-// What a view comes to in numbers: the answer and its place, and where the part lies in the container.
+// What a view comes to: the verdict, and where the part lies in the container.
 pub struct Located {
-    pub number: u64,
-    pub place: u64,
+    pub verdict: Verdict,
     pub from: usize,
     pub to: usize,
 }
@@ -20,18 +21,21 @@ fn absent() -> Located
     ensures { λ r. ⌜ r ≡ absence ⌝ }
 {
     Located {
-        number: 6,
-        place: 0,
+        verdict: Verdict {
+            number: 6,
+            place: 0,
+            tag: Tag::NoTag,
+        },
         from: 0,
         to: 0,
     }
 }
 
 // What the map has of the tag's row: 6 where the element is absent or the tag is not of the kind; or 0 and where the value lies.
-fn by_map(kind: u64, tag: u64, map: Map) -> Located
-    ensures { λ r. ⌜ r ≡ byMap (rowOf kind tag) (map .from) (map .to) ⌝ }
+fn by_map(kind: u64, element: u64, map: Map) -> Located
+    ensures { λ r. ⌜ r ≡ byMap (rowOf kind element) (map .from) (map .to) ⌝ }
 {
-    match kinds::row_of(kind, tag) {
+    match kinds::row_of(kind, element) {
         Row::Missing => absent(),
         Row::At(index, _, _, _, _, _) => {
             let froms = map.from;
@@ -42,8 +46,11 @@ fn by_map(kind: u64, tag: u64, map: Map) -> Located
                 return absent();
             }
             Located {
-                number: 0,
-                place: 0,
+                verdict: Verdict {
+                    number: 0,
+                    place: 0,
+                    tag: Tag::NoTag,
+                },
                 from: froms[row] as usize,
                 to: to,
             }
@@ -51,24 +58,19 @@ fn by_map(kind: u64, tag: u64, map: Map) -> Located
     }
 }
 
-// "View: check, then 6." The check's number and place, or what the map has. A refused part is empty and stands at the
-// container's start.
-pub fn locate(kind: u64, today: u64, container: &[u8], tag: u64) -> Located
-    ensures { λ r. ⌜ Locates (viewed kind today (now (container .entry)) tag) (now (container .entry)) r ⌝ }
+// "View: check, then 6." The check's verdict, or what the map has. A refused part is empty and stands at the container's start.
+pub fn locate(kind: u64, today: u64, container: &[u8], element: u64) -> Located
+    ensures { λ r. ⌜ Locates (viewed kind today (now (container .entry)) element) (now (container .entry)) r ⌝ }
 {
     let map = container::judge(kind, today, container);
     let outcome = map.outcome;
     match outcome {
-        Outcome::Broken(f) => {
-            let fault = f.fault;
-            Located {
-                number: verdicts::number_of(fault),
-                place: f.place as u64,
-                from: 0,
-                to: 0,
-            }
-        }
-        Outcome::Fine => by_map(kind, tag, map),
+        Outcome::Broken(_) => Located {
+            verdict: verdicts::verdict_of(outcome),
+            from: 0,
+            to: 0,
+        },
+        Outcome::Fine => by_map(kind, element, map),
     }
 }
 
@@ -77,15 +79,19 @@ pub fn view<'a>(
     kind: u64,
     today: u64,
     container: &'a [u8],
-    tag: u64,
+    element: u64,
     number: &mut u64,
     place: &mut u64,
+    tag: &mut u64,
 ) -> &'a [u8]
-    ensures { λ r. ⌜ Answers (viewed kind today (now (container .entry)) tag) (container .entry .ptr) (now (number .exit)) (now (place .exit)) (r .ptr) (now r) ⌝ }
+    ensures { λ r. ⌜ Answers (viewed kind today (now (container .entry)) element) (container .entry .ptr) (now (number .exit)) (now (place .exit)) (now (tag .exit)) (r .ptr) (now r) ⌝ }
 {
-    let part = locate(kind, today, container, tag);
-    *number = part.number;
-    *place = part.place;
+    let part = locate(kind, today, container, element);
+    let verdict = part.verdict;
+    let there = verdict.tag;
+    *number = verdict.number;
+    *place = verdict.place;
+    *tag = verdicts::tag_number(there);
     let from = part.from;
     let to = part.to;
     &container[from..to]

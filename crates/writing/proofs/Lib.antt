@@ -1,4 +1,5 @@
 pub mod Ways
 pub mod Sheets
 pub mod Promise
+pub mod Named
 pub mod Examples

@@ -36,9 +36,9 @@ use Rattle.writing.proofs.Sheets.{opened-exact, AllBytes, sheet-values,
 no-fine : {f : Finding} → Broken f ≡ Fine → ⊥
 no-fine e = let z : _≡_ {A = ℕ} 0 1 = cc in omega arith
 
-kept-fine : (x : Ruling) (at : ℕ) (later : Outcome) → keptOr x at later ≡ Fine → (x ≡ Kept) × (later ≡ Fine)
-kept-fine Kept at later e = (refl, e)
-kept-fine (Breaks f) at later e = absurd (no-fine e)
+kept-fine : (x : Ruling) (at tag : ℕ) (later : Outcome) → keptOr x at tag later ≡ Fine → (x ≡ Kept) × (later ≡ Fine)
+kept-fine Kept at tag later e = (refl, e)
+kept-fine (Breaks f) at tag later e = absurd (no-fine e)
 
 fine-allowed : (today : ℕ) (rows : Table) (vs : Values) (at : ℕ) → AllBytes vs → Sheeted rows vs → judged today rows vs at ≡ Fine → Allowed today rows vs
 fine-allowed today [] [] at b h e = tt
@@ -52,7 +52,7 @@ fine-allowed today (r ∷ rs) (none ∷ vs) at b h e =
 fine-allowed today (r ∷ rs) (some v ∷ vs) at b h e =
     elim (which (permitted (r .lengths) (length v))) [
       | inl p ↦
-          let k = kept-fine (ruleOf (r .rule) today v) at (judged today rs vs (at + 2 + length v)) (rw p at e) in
+          let k = kept-fine (ruleOf (r .rule) today v) at (r .tag) (judged today rs vs (at + 2 + length v)) (rw p at e) in
           (good-fits today r v (b .0) (p, k .0), fine-allowed today rs vs (at + 2 + length v) (b .1) (h .1) (k .1))
       | inr p ↦ absurd (no-fine (rw p at e))
     ]

@@ -12,7 +12,7 @@ use Rattle.laws.proofs.Cases.{which}
 use Rattle.dates.specs.Date.{isDate}
 use Rattle.kinds.specs.Tables.{table, isKind}
 use Rattle.lengths.specs.Length.{lengthBytes}
-use Rattle.verdicts.specs.Verdicts.{found}
+use Rattle.verdicts.specs.Verdicts.{outright}
 use Rattle.verdicts.specs.Output.{Output, refusal, text}
 use Rattle.verdicts.specs.declared.Fault.the-variants.{TornSheet}
 use Rattle.verdicts.specs.declared.Outcome.{Outcome}
@@ -29,7 +29,7 @@ module _ (kind today : ℕ) (s : List ℕ) (room : ℕ) where
   -- a plan for a sheet that opens to some values, or to none
   abbrev outOf : Plan → Option Values → Output
   outOf (Refuse f) o = refusal f
-  outOf (Takes n) none = refusal (found TornSheet 0)
+  outOf (Takes n) none = refusal (outright TornSheet)
   outOf (Takes n) (some vs) = sizedOut (boxed kind n vs) room
 
   by-plan : writeOutput kind today s room ≡ outOf (planFor kind today s) (opened (table kind) s)

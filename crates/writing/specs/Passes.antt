@@ -6,7 +6,7 @@ use lib.Dec.{ltb}
 use lib.ListN.{length}
 use Rattle.lengths.specs.Length.{lengthBytes}
 use Rattle.kinds.specs.Tables.{table}
-use Rattle.verdicts.specs.Verdicts.{found}
+use Rattle.verdicts.specs.Verdicts.{outright}
 use Rattle.verdicts.specs.declared.Fault.the-variants.{LargeContainer, SmallRoom}
 use Rattle.container.specs.Container.{Values, tagBytes, encode, outerTag, largest}
 use Rattle.sections.specs.declared.Plan.{Plan}
@@ -27,6 +27,6 @@ boxSize n = 1 + length (lengthBytes n) + n
 abbrev pub fitted : Plan → ℕ → Plan
 fitted (Refuse f) room = Refuse f
 fitted (Takes n) room =
-    cond (ltb largest (boxSize n)) (Refuse (found LargeContainer 0))
-    (cond (ltb room (boxSize n)) (Refuse (found SmallRoom 0))
+    cond (ltb largest (boxSize n)) (Refuse (outright LargeContainer))
+    (cond (ltb room (boxSize n)) (Refuse (outright SmallRoom))
     (Takes n))

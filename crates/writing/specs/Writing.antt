@@ -7,7 +7,7 @@ use lib.Dec.{leb, ltb}
 use lib.ListN.{length}
 use Rattle.kinds.specs.Tables.{table, isKind}
 use Rattle.dates.specs.Date.{isDate}
-use Rattle.verdicts.specs.Verdicts.{found}
+use Rattle.verdicts.specs.Verdicts.{outright}
 use Rattle.verdicts.specs.Output.{Output, refusal, text}
 use Rattle.verdicts.specs.declared.Fault.the-variants.{UnknownKind, NoDate, SmallRoom, LargeContainer, TornSheet}
 use Rattle.verdicts.specs.declared.Outcome.{Outcome}
@@ -19,21 +19,21 @@ use Rattle.sections.specs.Opened.{opened, judged}
 
 -- a text that goes into a room of so many bytes, or 3
 abbrev pub roomy : List ℕ → ℕ → Output
-roomy t room = cond (ltb room (length t)) (refusal (found SmallRoom 0)) (text t)
+roomy t room = cond (ltb room (length t)) (refusal (outright SmallRoom)) (text t)
 
 abbrev pub sizedOut : List ℕ → ℕ → Output
-sizedOut c room = cond (leb (length c) largest) (roomy c room) (refusal (found LargeContainer 0))
+sizedOut c room = cond (leb (length c) largest) (roomy c room) (refusal (outright LargeContainer))
 
 abbrev pub judgedOut : Outcome → List ℕ → ℕ → Output
 judgedOut Fine c room = sizedOut c room
 judgedOut (Broken f) c room = refusal f
 
 abbrev pub openedOut : ℕ → ℕ → Option Values → ℕ → Output
-openedOut kind today none room = refusal (found TornSheet 0)
+openedOut kind today none room = refusal (outright TornSheet)
 openedOut kind today (some vs) room = judgedOut (judged today (table kind) vs 0) (container kind vs) room
 
 unfoldable pub writeOutput : ℕ → ℕ → List ℕ → ℕ → Output
 writeOutput kind today sheet room =
     cond (isKind kind)
-    (cond (isDate today) (openedOut kind today (opened (table kind) sheet) room) (refusal (found NoDate 0)))
-    (refusal (found UnknownKind 0))
+    (cond (isDate today) (openedOut kind today (opened (table kind) sheet) room) (refusal (outright NoDate)))
+    (refusal (outright UnknownKind))

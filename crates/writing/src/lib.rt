@@ -84,10 +84,10 @@ fn fitted(plan: Plan, room: usize) -> Plan
             let size = 1 + lengths::length_width(n) + n;
             let large = container::too_large(size);
             if large {
-                return Plan::Refuse(verdicts::found(Fault::LargeContainer, 0));
+                return Plan::Refuse(verdicts::outright(Fault::LargeContainer));
             }
             if room < size {
-                return Plan::Refuse(verdicts::found(Fault::SmallRoom, 0));
+                return Plan::Refuse(verdicts::outright(Fault::SmallRoom));
             }
             Plan::Takes(n)
         }

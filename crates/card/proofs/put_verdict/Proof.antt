@@ -6,10 +6,12 @@ use Rattle.card.proofs.put_verdict.Tie as tie
 
 returns : tie.Need-returns
 returns c =
-    let c3 = c .before .before in
+    let c5 = c .before .before in
+    let c4 = c5 .before .before .before .before in
+    let c3 = c4 .before .before .before .before in
     let c2 = c3 .before .before .before .before in
     let c1 = c2 .before .before .before .before in
-    then (then (c1 .put-all .ensures) (c2 .put-number .ensures)) (c3 .put-number2 .ensures)
+    then (then (then (then (c1 .put-all .ensures) (c2 .put-number .ensures)) (c3 .put-number2 .ensures)) (c4 .put-tag .ensures)) (c5 .put-byte .ensures)
 
 pub put-verdict-spec : {M : Type 1} → statement M
 put-verdict-spec =
@@ -17,6 +19,16 @@ put-verdict-spec =
     (tie.spec
     (λ c. search needs)
     (λ c κs. search needs)
+    (λ c. search needs)
+    (λ c. search needs)
+    (λ c. search needs)
+    (λ c κs. search needs)
+    (λ c. search needs)
+    (λ c. search needs)
+    (λ c. search needs)
+    (λ c. search needs)
+    (λ c κs. search needs)
+    (λ c. search needs)
     (λ c. search needs)
     (λ c. search needs)
     (λ c. search needs)

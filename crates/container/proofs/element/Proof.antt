@@ -24,21 +24,21 @@ returns c =
     let k = c .before .before in
     let s = k .before .before .before .before .before .before in
     let a = s .args in
-    rw (c .found2 .ensures) (earlier (a .kind) (a .today) (a .c .now) (a .at) (a .done) (s .pre) (row k) (c .before .if1 .taken))
+    rw (c .found2 .ensures, k .before .before .before .before .tag-at .ensures) (earlier (a .kind) (a .today) (a .c .now) (a .at) (a .done) (s .pre) (row k) (c .before .if1 .taken))
 
 returns-2 : tie.Need-returns-2
 returns-2 c =
     let k = c .before .before .before in
     let s = k .before .before .before .before .before .before in
     let a = s .args in
-    rw (c .found3 .ensures) (missed (a .kind) (a .today) (a .c .now) (a .at) (a .done) (s .pre) (row k) (c .before .before .if1 .left) (c .before .if2 .taken))
+    rw (c .found3 .ensures, k .before .before .before .before .tag-at .ensures) (missed (a .kind) (a .today) (a .c .now) (a .at) (a .done) (s .pre) (row k) (c .before .before .if1 .left) (c .before .if2 .taken))
 
 returns-3 : tie.Need-returns-3
 returns-3 c =
     let r = c .before .before .before in
     let s = r .before .before .before in
     let a = s .args in
-    rw (c .found .ensures)
+    rw (c .found .ensures, r .before .tag-at .ensures)
     (unknown (a .kind) (a .today) (a .c .now) (a .at) (a .done) (s .pre)
     (sym (c .before .enum-told .given .1) ∙ r .row-of .ensures ∙ ap (rowOf (a .kind)) (r .before .tag-at .ensures)))
 
@@ -56,7 +56,7 @@ returns-4 c =
     let k = e .before .before in
     let s = k .before .before .before .before .before .before in
     let a = s .args in
-    rw (c .found4 .ensures)
+    rw (c .found4 .ensures, k .before .before .before .before .tag-at .ensures)
     (breaks (a .kind) (a .today) (a .c .now) (a .at) (a .done) (s .pre) (row k) (e .before .if1 .left) (e .if2 .left) (begin v)
     (sym (c .before .before .f .given .1) ∙ v .value-at .ensures))
 

@@ -6,4 +6,4 @@ use Rattle.container.proofs.outright.Statement.{statement}
 use Rattle.container.proofs.outright.Tie as tie
 
 pub outright-spec : {M : Type 1} → statement M
-outright-spec = tie.close (tie.spec (λ c κs. search needs) (λ c κs. search needs) (λ c. c .lost .ensures ∙ ap lost (c .before .found .ensures)))
+outright-spec = tie.close (tie.spec (λ c κs. search needs) (λ c κs. search needs) (λ c. c .lost .ensures ∙ ap lost (c .before .outright .ensures)))

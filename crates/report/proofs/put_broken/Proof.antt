@@ -11,7 +11,7 @@ returns c =
     let e = c .before .before in
     let p = e .before .before .before .before .before in
     let n = p .before .before in
-    then (rw (n .number-of .ensures) at (p .put-card .ensures)) (e .put-all .ensures)
+    then (rw (n .verdict-of .ensures) at (p .put-card .ensures)) (e .put-all .ensures)
 
 pub put-broken-spec : {M : Type 1} → statement M
 put-broken-spec =

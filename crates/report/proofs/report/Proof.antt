@@ -38,7 +38,7 @@ returns c =
     let z = i .before .before .before in
     let a = z .before .before .before .before .args in
     refuses (a .room .now) (report-1 (a .kind) (a .today) (a .container .now) _ (sym (i .is-kind .ensures) ∙ not-true _ (c .before .before .if1 .taken))) (z .clear .ensures)
-    (rw (c .before .found .ensures) at (c .refused .ensures))
+    (rw (c .before .outright .ensures) at (c .refused .ensures))
 
 returns-2 : tie.Need-returns-2
 returns-2 c =
@@ -47,7 +47,7 @@ returns-2 c =
     let z = e .before .before .before .before in
     let a = z .before .before .before .before .args in
     refuses (a .room .now) (report-2 (a .kind) (a .today) (a .container .now) _ (a-kind e) (sym (i .is-date .ensures) ∙ not-true _ (c .before .before .if2 .taken))) (z .clear .ensures)
-    (rw (c .before .found2 .ensures) at (c .refused2 .ensures))
+    (rw (c .before .outright2 .ensures) at (c .refused2 .ensures))
 
 returns-3 : tie.Need-returns-3
 returns-3 c =
@@ -57,7 +57,7 @@ returns-3 c =
     let z = e .before .before .before .before in
     let a = z .before .before .before .before .args in
     let l : length (a .room .now) < 512 = omega (arith, t .if3 .taken) in
-    refuses (a .room .now) (report-3 (a .kind) (a .today) (a .container .now) _ (a-kind e) (a-date f) l) (z .clear .ensures) (rw (c .before .found3 .ensures) at (c .refused3 .ensures))
+    refuses (a .room .now) (report-3 (a .kind) (a .today) (a .container .now) _ (a-kind e) (a-date f) l) (z .clear .ensures) (rw (c .before .outright3 .ensures) at (c .refused3 .ensures))
 
 returns-4 : tie.Need-returns-4
 returns-4 c =
@@ -68,7 +68,7 @@ returns-4 c =
     let z = e .before .before .before .before in
     let a = z .before .before .before .before .args in
     let l : 512 ≤ length (a .room .now) = omega (arith, g .if3 .left) in
-    refuses (a .room .now) (report-4 (a .kind) (a .today) (a .container .now) _ (a-kind e) (a-date f) l (ltb-true _ _ (sym (t .before .too-large .ensures) ∙ t .if4 .taken))) (z .clear .ensures) (rw (c .before .found4 .ensures) at (c .refused4 .ensures))
+    refuses (a .room .now) (report-4 (a .kind) (a .today) (a .container .now) _ (a-kind e) (a-date f) l (ltb-true _ _ (sym (t .before .too-large .ensures) ∙ t .if4 .taken))) (z .clear .ensures) (rw (c .before .outright4 .ensures) at (c .refused4 .ensures))
 
 returns-5 : tie.Need-returns-5
 returns-5 c =

@@ -49,9 +49,9 @@ returns-2 c =
     let k = t .before in
     let v = l k .loop in
     let a = l k .before .before .before .before .args in (
-      rw (c .refuse .ensures)
+      rw (c .refuse-row .ensures)
           (body-missing (a .kind) (a .s .now) (a .x .from) (a .x .to) (v .row) (here k) (t .if1 .taken) (a .today) (v .at) (v .size) (not-true _ (c .before .if2 .taken)) ∙ v .inv .3 ∙ body-all _ _ _ _ _),
-      rw (c .refuse .ensures) tt,
+      rw (c .refuse-row .ensures) tt,
     )
 
 loop-again : tie.Need-loop-again Inv-loop μ-loop
@@ -76,9 +76,9 @@ returns-3 c =
     let k = e .before in
     let v = l k .loop in
     let a = l k .before .before .before .before .args in (
-      rw (c .refuse2 .ensures)
+      rw (c .refuse-row2 .ensures)
           (body-broken (a .kind) (a .s .now) (a .x .from) (a .x .to) (v .row) (here k) (e .if1 .left) (a .today) (v .at) (v .size) (sym (b .before .f .given .1) ∙ j .judge-value .ensures) ∙ v .inv .3 ∙ body-all _ _ _ _ _),
-      rw (c .refuse2 .ensures) tt,
+      rw (c .refuse-row2 .ensures) tt,
     )
 
 loop-again-2 : tie.Need-loop-again-2 Inv-loop μ-loop

@@ -10,7 +10,7 @@ use Rattle.views.proofs.by_map.Tie as tie
 
 -- the row is one of the table's
 numbered : (k : tie.After-known-told) → (1 ≤ k .before .index .given .0 .0) × (k .before .index .given .0 .0 ≤ 15)
-numbered k = row-number (k .before .before .before .before .args .kind) (k .before .before .before .before .args .tag) (sym (k .before .before .before .row-of .ensures) ∙ k .before .index .given .1)
+numbered k = row-number (k .before .before .before .before .args .kind) (k .before .before .before .before .args .element) (sym (k .before .before .before .row-of .ensures) ∙ k .before .index .given .1)
 
 returns : tie.Need-returns
 returns c =

@@ -26,14 +26,14 @@ returns : tie.Need-returns
 returns c =
     let t = c .before in
     let w = t .before .before in
-    rw (c .found .ensures, w .before .before .plan2 .given .1, ← w .length-width .ensures .0, large t)
+    rw (c .outright .ensures, w .before .before .plan2 .given .1, ← w .length-width .ensures .0, large t)
 
 returns-2 : tie.Need-returns-2
 returns-2 c =
     let t = c .before in
     let e = t .before in
     let w = e .before .before in
-    rw (c .found2 .ensures, w .before .before .plan2 .given .1, ← w .length-width .ensures .0, fits e, lt-ltb _ _ (t .if2 .taken))
+    rw (c .outright2 .ensures, w .before .before .plan2 .given .1, ← w .length-width .ensures .0, fits e, lt-ltb _ _ (t .if2 .taken))
 
 returns-3 : tie.Need-returns-3
 returns-3 c = rw (c .before .plan .given .1)
