@@ -16,8 +16,8 @@ use Rattle.laws.proofs.Cases.{which}
 use Rattle.lengths.specs.Length.{lengthBytes}
 use Rattle.kinds.specs.Tables.{Entry, Table}
 use Rattle.verdicts.specs.declared.Finding.{Finding}
-use Rattle.container.specs.Container.{Values, tagBytes, long, has, tagHere, encode, Allowed}
-use Rattle.container.specs.Reading.{Parsed, values, fault, Part, valuesOf, alone, prepend, Element, whole, broken, element, follow, parse}
+use Rattle.container.specs.Container.{Values, tagBytes, long, has, encode, Allowed}
+use Rattle.container.specs.Reading.{Parsed, values, fault, Part, valuesOf, alone, prepend, Element, whole, broken, element, tagHere, follow, parse}
 use Rattle.container.proofs.Rows.{Distinct}
 use Rattle.container.proofs.Tags.{Plain, Tags, tag-is, begins}
 use Rattle.container.proofs.One.{Good, element-is, element-of, good-fits, fits-good}

@@ -22,8 +22,8 @@ use Rattle.verdicts.specs.declared.Tag.the-variants.{NoTag, Of}
 use Rattle.verdicts.specs.declared.Finding.{Finding}
 use Rattle.verdicts.specs.declared.Fault.{Fault}
 use Rattle.verdicts.specs.declared.Fault.the-variants.{UnknownTag, TagOrder, MissingRow}
-use Rattle.container.specs.Container.{Values, tagBytes, long, has, tagHere, encode, Allowed}
-use Rattle.container.specs.Reading.{Parsed, values, fault, Part, prepend, Element, whole, broken, element, misplaced, follow, parse}
+use Rattle.container.specs.Container.{Values, tagBytes, long, has, encode, Allowed}
+use Rattle.container.specs.Reading.{Parsed, values, fault, Part, prepend, Element, whole, broken, element, tagHere, misplaced, follow, parse}
 use Rattle.container.specs.InOrder.{Owed, AtFault, not-in-table, not-to-come, passed-over, in-row, Wrong, at-end, at-element, First}
 use Rattle.container.proofs.Tags.{Tags, tag-is, tag-read, tag-stands}
 use Rattle.container.proofs.One.{element-is, good-fits}

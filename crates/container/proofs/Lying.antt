@@ -23,8 +23,8 @@ use Rattle.verdicts.specs.Verdicts.{found}
 use Rattle.verdicts.specs.declared.Tag.the-variants.{Of}
 use Rattle.verdicts.specs.declared.Finding.{Finding}
 use Rattle.verdicts.specs.declared.Outcome.the-variants.{Fine, Broken}
-use Rattle.container.specs.Container.{Values, tagBytes, long, tagHere, outerTag, Allowed, largest}
-use Rattle.container.specs.Reading.{Parsed, values, fault, Part, valuesOf, alone, prepend, Element, whole, broken, element, follow, parse, inner, outer, located, parsed, outcomeOf}
+use Rattle.container.specs.Container.{Values, tagBytes, long, outerTag, Allowed, largest}
+use Rattle.container.specs.Reading.{Parsed, values, fault, Part, valuesOf, alone, prepend, Element, whole, broken, element, tagHere, follow, parse, inner, outer, located, parsed, outcomeOf}
 use Rattle.container.specs.Map.{laid, noted, mapOf, rowValue, rowValues}
 use Rattle.container.specs.declared.Map.{Map}
 use Rattle.container.proofs.One.{element-is}

@@ -22,8 +22,8 @@ use Rattle.verdicts.specs.declared.Tag.the-variants.{NoTag, Of}
 use Rattle.verdicts.specs.declared.Finding.{Finding}
 use Rattle.verdicts.specs.declared.Fault.{Fault}
 use Rattle.verdicts.specs.declared.Fault.the-variants.{UnknownTag, TagOrder, MissingRow}
-use Rattle.container.specs.Container.{Values, tagBytes, long, has, tagHere, encode, outerTag, Allowed, largest}
-use Rattle.container.specs.Reading.{fault, prepend, broken, element, parse, outer, located, parsed}
+use Rattle.container.specs.Container.{Values, tagBytes, long, has, encode, outerTag, Allowed, largest}
+use Rattle.container.specs.Reading.{fault, prepend, broken, element, tagHere, parse, outer, located, parsed}
 use Rattle.container.specs.InOrder.{Owed, AtFault, not-in-table, not-to-come, passed-over, in-row, Wrong, at-end, at-element, LastThere, First, Named, no-kind, no-date, too-large, outer-tag, outer-length, outer-end, in-element}
 use Rattle.container.proofs.Rows.{Distinct, gone}
 use Rattle.container.proofs.Tags.{Tags, tags, distinct, begins, no-tag, tag-read}

@@ -21,8 +21,8 @@ use Rattle.verdicts.specs.Verdicts.{found}
 use Rattle.verdicts.specs.declared.Fault.the-variants.{UnknownTag, TagOrder, MissingRow}
 use Rattle.verdicts.specs.declared.Tag.the-variants.{NoTag, Of}
 use Rattle.verdicts.specs.declared.Outcome.the-variants.{Fine}
-use Rattle.container.specs.Container.{long, has, tagHere}
-use Rattle.container.specs.Reading.{Parsed, values, fault, Part, prepend, element, misplaced, follow, parse}
+use Rattle.container.specs.Container.{long, has}
+use Rattle.container.specs.Reading.{Parsed, values, fault, Part, prepend, element, tagHere, misplaced, follow, parse}
 use Rattle.container.specs.Map.{lost, noted, lengthsOf}
 use Rattle.container.specs.declared.Map.{Map}
 

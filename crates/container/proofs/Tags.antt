@@ -14,7 +14,8 @@ use Rattle.laws.proofs.Cases.{which, and-true, either, or-right}
 use Rattle.laws.proofs.Turns.{from-one}
 use Rattle.kinds.specs.Tables.{Table, table}
 use Rattle.kinds.proofs.Every.{of-every, of-every-kind}
-use Rattle.container.specs.Container.{tagBytes, long, has, tagHere}
+use Rattle.container.specs.Container.{tagBytes, long, has}
+use Rattle.container.specs.Reading.{tagHere}
 use Rattle.container.specs.InOrder.{IsTag, of-table, a-byte}
 use Rattle.container.proofs.Rows.{Distinct}
 

@@ -20,8 +20,8 @@ use Rattle.verdicts.specs.declared.Fault.{Fault}
 use Rattle.verdicts.specs.declared.Fault.the-variants.{UnknownTag, TagOrder, MissingRow}
 use Rattle.verdicts.specs.declared.Tag.the-variants.{NoTag, Of}
 use Rattle.verdicts.specs.declared.Outcome.the-variants.{Fine}
-use Rattle.container.specs.Container.{long, tagHere}
-use Rattle.container.specs.Reading.{Parsed, Part, Element, whole, broken, element, follow, parse}
+use Rattle.container.specs.Container.{long}
+use Rattle.container.specs.Reading.{Parsed, Part, Element, whole, broken, element, tagHere, follow, parse}
 use Rattle.container.specs.Map.{lost, noted, mapFrom, Steps, valueAt, lengthsOf}
 use Rattle.container.specs.declared.Map.{Map}
 use Rattle.container.specs.declared.Value.the-variants.{Bad, Whole}

@@ -1,7 +1,7 @@
 -- 01, "Container form": a container's bytes from its values, and which values are allowed.
 use Prim.Native.Nat.{ℕ, _/_, _%_, _≤_}
 use mathlib.Core.Path.{_≡_}
-use mathlib.Core.Bool.{Bool, true, false, cond, _&&_}
+use mathlib.Core.Bool.{Bool, true, false, cond}
 use mathlib.Core.Option.{Option, none, some}
 use mathlib.Core.List.{List, [], _∷_, _++_}
 use lib.ListN.{length}
@@ -35,8 +35,6 @@ outerTag kind = cond (eqb kind 3) 0x7E 0x53
 abbrev pub container : ℕ → Values → List ℕ
 container kind vs = outerTag kind ∷ (lengthBytes (length (encode (table kind) vs)) ++ encode (table kind) vs)
 
--- ---- which tag stands where some bytes begin
-
 -- how many bytes a tag takes
 abbrev pub long : ℕ → ℕ
 long t = length (tagBytes t)
@@ -45,12 +43,6 @@ long t = length (tagBytes t)
 abbrev pub has : ℕ → Table → Bool
 has t [] = false
 has t (r ∷ rs) = cond (eqb t (r .tag)) true (has t rs)
-
--- the tag that the byte b begins, before the bytes s: one byte, or 5F2F in a table that has it ("there a 5F without 2F after it is 13": it is the tag 5F,
--- which no table has)
-abbrev pub tagHere : Table → ℕ → List ℕ → ℕ
-tagHere all b [] = b
-tagHere all b (x ∷ s) = cond (has 0x5F2F all && (eqb b 0x5F && eqb x 0x2F)) 0x5F2F b
 
 -- ---- which values are allowed
 

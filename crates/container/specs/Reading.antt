@@ -2,7 +2,7 @@
 -- exactly where the container conforms (`Promise`), that they stand where it says (`Lying`), and that a fault is read exactly where it is the first broken
 -- rule (`Named`).
 use Prim.Native.Nat.{ℕ, _+_}
-use mathlib.Core.Bool.{cond}
+use mathlib.Core.Bool.{cond, _&&_}
 use mathlib.Core.Option.{Option, none, some}
 use mathlib.Core.List.{List, [], _∷_}
 use lib.ListN.{length, take, drop}
@@ -22,7 +22,7 @@ use Rattle.verdicts.specs.declared.Ruling.the-variants.{Kept, Breaks}
 use Rattle.verdicts.specs.declared.Outcome.{Outcome}
 use Rattle.verdicts.specs.declared.Outcome.the-variants.{Fine, Broken}
 use Rattle.verdicts.specs.declared.Verdict.{Verdict}
-use Rattle.container.specs.Container.{Values, long, has, tagHere, outerTag, largest}
+use Rattle.container.specs.Container.{Values, long, has, outerTag, largest}
 
 -- what is read: something for each row that is there, or the first finding
 pub data Parsed (A : Type 0) : Type 0 where
@@ -74,6 +74,11 @@ module _ (l : Lengths) (rule : ValueRule) (today : ℕ) where
   element s = measured (readLength s) s
 
 -- ---- the elements, row by row
+
+-- the tag that the byte b begins, before the bytes s: one byte, or 5F2F in a table that has it
+abbrev pub tagHere : Table → ℕ → List ℕ → ℕ
+tagHere all b [] = b
+tagHere all b (x ∷ s) = cond (has 0x5F2F all && (eqb b 0x5F && eqb x 0x2F)) 0x5F2F b
 
 -- a tag that stands where it may not, while the rows `rest` of the table `all` are still to come: 15, 14 or 13
 abbrev pub misplaced : Table → Table → ℕ → Fault

@@ -6,7 +6,8 @@ use borrow.Author.Needs.{needs}
 use Rattle.laws.proofs.Bases.{below-of}
 use Rattle.kinds.specs.Tables.{table, rowOf}
 use Rattle.kinds.specs.declared.Row.the-variants.{At}
-use Rattle.container.specs.Container.{long, tagHere}
+use Rattle.container.specs.Container.{long}
+use Rattle.container.specs.Reading.{tagHere}
 use Rattle.container.proofs.Turn.{unknown, earlier, missed, breaks, goes-on}
 use Rattle.container.proofs.element.Statement.{statement}
 use Rattle.container.proofs.element.Tie as tie
