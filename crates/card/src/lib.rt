@@ -2,9 +2,12 @@
 // text into a lent room. Where the room ends, so does the text: no writer asks anything of its caller.
 ghost use mathlib.Core.List.{[], _∷_, _++_};
 ghost use Rattle.laws.specs.Room.{Put};
+ghost use Rattle.verdicts.specs.Verdicts.{verdictOf};
+ghost use Rattle.verdicts.specs.declared.Outcome.the-variants.{Broken};
 ghost use Rattle.card.specs.Card.{kindName, tagText, verdictLine, cardPart};
+use verdicts::Finding;
+use verdicts::Outcome;
 use verdicts::Tag;
-use verdicts::Verdict;
 
 // "1 CCC, 2 CHUID, 3 DISCOVERY, 4 PRINTED, 5 SECURITY, 6 FINGERS, 7 FACE", 2026-04: "8 to 11, printed PIVAUTH, DIGSIG, KEYMGMT,
 // CARDAUTH", and the line's end.
@@ -37,25 +40,37 @@ fn put_tag(tag: Tag, out: &mut [u8]) -> usize
     }
 }
 
-// "verdict number and place", and the tag.
-fn put_verdict(verdict: Verdict, out: &mut [u8]) -> usize
-    ensures { λ r. ⌜ Put (verdictLine verdict) (now (out .entry)) (now (out .exit)) r ⌝ }
+// "verdict number and place", and the tag, of a broken rule.
+fn put_broken(f: Finding, out: &mut [u8]) -> usize
+    ensures { λ r. ⌜ Put (verdictLine (verdictOf (Broken f))) (now (out .entry)) (now (out .exit)) r ⌝ }
 {
-    let tag = verdict.tag;
+    let fault = f.fault;
+    let tag = f.tag;
+    let number = verdicts::number_of(fault);
     let mut at = room::put_all(b"verdict ", out);
-    at += texts::put_number(verdict.number, b' ', &mut out[at..]);
-    at += texts::put_number(verdict.place, b' ', &mut out[at..]);
+    at += texts::put_number(number, b' ', &mut out[at..]);
+    at += texts::put_number(f.place as u64, b' ', &mut out[at..]);
     at += put_tag(tag, &mut out[at..]);
     at + room::put_byte(b'\n', &mut out[at..])
 }
 
+// The line of the verdict. That of a container that conforms is always the same, and is put in one piece.
+fn put_verdict(outcome: Outcome, out: &mut [u8]) -> usize
+    ensures { λ r. ⌜ Put (verdictLine (verdictOf outcome)) (now (out .entry)) (now (out .exit)) r ⌝ }
+{
+    match outcome {
+        Outcome::Fine => room::put_all(b"verdict 0 0 --\n", out),
+        Outcome::Broken(f) => put_broken(f, out),
+    }
+}
+
 // The section, after its count of lines.
-pub fn put_card(kind: u64, size: usize, today: u64, verdict: Verdict, out: &mut [u8]) -> usize
-    ensures { λ r. ⌜ Put (cardPart kind size today verdict) (now (out .entry)) (now (out .exit)) r ⌝ }
+pub fn put_card(kind: u64, size: usize, today: u64, outcome: Outcome, out: &mut [u8]) -> usize
+    ensures { λ r. ⌜ Put (cardPart kind size today (verdictOf outcome)) (now (out .entry)) (now (out .exit)) r ⌝ }
 {
     let mut at = room::put_all(b"CARD 4\nkind ", out);
     at += put_kind(kind, &mut out[at..]);
     at += texts::put_count(b"bytes ", size as u64, &mut out[at..]);
     at += texts::put_digits(b"today ", 8, today, &mut out[at..]);
-    at + put_verdict(verdict, &mut out[at..])
+    at + put_verdict(outcome, &mut out[at..])
 }

@@ -22,13 +22,7 @@ fn put_fine(kind: u64, today: u64, c: &[u8], map: Map, out: &mut [u8]) -> usize
     requires { ⌜ ((today : ℕ) × Allowed today (table kind) (rowValues (map .from) (map .to) (now c) (length (table kind)) 0)) ⌝ }
     ensures { λ r. ⌜ Put (reportText kind today (length (now (c .entry))) (values (rowValues (map .from) (map .to) (now (c .entry)) (length (table kind)) 0))) (now (out .entry)) (now (out .exit)) r ⌝ }
 {
-    let mut at = card::put_card(
-        kind,
-        c.len(),
-        today,
-        verdicts::verdict_of(Outcome::Fine),
-        out,
-    );
+    let mut at = card::put_card(kind, c.len(), today, Outcome::Fine, out);
     at += elements::put_elements(kind, map, &mut out[at..]);
     at + opens::put_open(kind, c, map, &mut out[at..])
 }
@@ -37,13 +31,7 @@ fn put_fine(kind: u64, today: u64, c: &[u8], map: Map, out: &mut [u8]) -> usize
 fn put_broken(kind: u64, today: u64, size: usize, f: Finding, out: &mut [u8]) -> usize
     ensures { λ r. ⌜ Put (reportText kind today size (fault f)) (now (out .entry)) (now (out .exit)) r ⌝ }
 {
-    let at = card::put_card(
-        kind,
-        size,
-        today,
-        verdicts::verdict_of(Outcome::Broken(f)),
-        out,
-    );
+    let at = card::put_card(kind, size, today, Outcome::Broken(f), out);
     at + room::put_all(b"ELEMENTS 0\nOPEN 0\n", &mut out[at..])
 }
 

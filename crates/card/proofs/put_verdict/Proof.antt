@@ -1,43 +1,26 @@
--- `card::put_verdict` meets its contract: its pieces stand one after the other. Assumes nothing.
-use Rattle.laws.proofs.Rooms.{then}
+-- `card::put_verdict` meets its contract: the one line of a container that conforms, or that of a broken rule. Assumes nothing.
+use Rattle.texts.specs.Text.{decimal}
 use borrow.Author.Needs.{needs}
 use Rattle.card.proofs.put_verdict.Statement.{statement}
 use Rattle.card.proofs.put_verdict.Tie as tie
 
 returns : tie.Need-returns
-returns c =
-    let c5 = c .before .before in
-    let c4 = c5 .before .before .before .before in
-    let c3 = c4 .before .before .before .before in
-    let c2 = c3 .before .before .before .before in
-    let c1 = c2 .before .before .before .before in
-    then (then (then (then (c1 .put-all .ensures) (c2 .put-number .ensures)) (c3 .put-number2 .ensures)) (c4 .put-tag .ensures)) (c5 .put-byte .ensures)
+unfolding decimal
+returns c = let p = c .before .before in rw (p .before .before .before .enum-told .given .1) (p .put-all .ensures)
+
+returns-2 : tie.Need-returns-2
+returns-2 c = let p = c .before .before in rw (p .before .before .before .outcome .given .1) (p .put-broken .ensures)
 
 pub put-verdict-spec : {M : Type 1} → statement M
 put-verdict-spec =
     tie.close
     (tie.spec
     (λ c. search needs)
-    (λ c κs. search needs)
-    (λ c. search needs)
-    (λ c. search needs)
     (λ c. search needs)
     (λ c κs. search needs)
     (λ c. search needs)
-    (λ c. search needs)
-    (λ c. search needs)
-    (λ c. search needs)
     (λ c κs. search needs)
     (λ c. search needs)
+    returns
     (λ c. search needs)
-    (λ c. search needs)
-    (λ c. search needs)
-    (λ c κs. search needs)
-    (λ c. search needs)
-    (λ c. search needs)
-    (λ c. search needs)
-    (λ c. search needs)
-    (λ c κs. search needs)
-    (λ c. search needs)
-    (λ c. search needs)
-    returns)
+    returns-2)

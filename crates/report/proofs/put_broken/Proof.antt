@@ -10,14 +10,12 @@ unfolding reportText
 returns c =
     let e = c .before .before in
     let p = e .before .before .before .before .before in
-    let n = p .before .before in
-    then (rw (n .verdict-of .ensures) at (p .put-card .ensures)) (e .put-all .ensures)
+    then (p .put-card .ensures) (e .put-all .ensures)
 
 pub put-broken-spec : {M : Type 1} → statement M
 put-broken-spec =
     tie.close
     (tie.spec
-    (λ c κs. search needs)
     (λ c κs. search needs)
     (λ c. search needs)
     (λ c. search needs)

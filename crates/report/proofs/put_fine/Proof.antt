@@ -15,17 +15,15 @@ returns c =
     let o = c .before .before in
     let e = o .before .before .before .before in
     let p = e .before .before .before .before in
-    let v = p .before .before in
-    let s = v .before .before .before in
+    let s = p .before .before .before .before in
     let a = s .args in
     let q = ap (elementsPart (table (a .kind))) (sym (map-shape (a .kind) (a .map) (a .c .now) (s .pre .0))) in
-    then (then (rw (v .verdict-of .ensures) at (p .put-card .ensures)) (same-text q (e .put-elements .ensures))) (o .put-open .ensures)
+    then (then (p .put-card .ensures) (same-text q (e .put-elements .ensures))) (o .put-open .ensures)
 
 pub put-fine-spec : {M : Type 1} → statement M
 put-fine-spec =
     tie.close
     (tie.spec
-    (λ c κs. search needs)
     (λ c κs. search needs)
     (λ c. search needs)
     (λ c. search needs)
