@@ -15,7 +15,7 @@ use Rattle.container.specs.Container.{Values, Conforms, largest}
 use Rattle.container.specs.Reading.{values, parsed}
 use Rattle.container.proofs.Promise.{kind-exact}
 use Rattle.report.specs.Report.{reportText}
-use Rattle.report.proofs.Answers.{short, report-0, conforming-output}
+use Rattle.report.proofs.Answers.{short, report-0, names-nothing, conforming-output}
 use Rattle.report.proofs.Same.{same-rooms, same-verdict, rooms-alike}
 use Rattle.report.proofs.Converse.{converse}
 use Rattle.prosianek.specs.Calls.{Reports}
@@ -49,5 +49,6 @@ demand-3 = record {
   conversely = λ k t l u vs ws c d b g h i before₁ before₂ after₁ after₂ r₁ r₂ p q x y e.
       converse k t l u vs ws c d b g h i (sym (written k t c b vs h before₁ after₁ r₁ p x) ∙ e ∙ written l u d g ws i before₂ after₂ r₂ q y);
   whole-text = whole;
+  names-nothing = λ kind today c before after r h. rw (h .leaves .answer) (names-nothing kind today c (length before));
   open-numbers = λ f n c. let e = complete f n c in (ap (λ (d : Decoded). d .numbers .agency) e, ap (λ (d : Decoded). d .numbers .system) e);
 }

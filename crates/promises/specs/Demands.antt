@@ -207,6 +207,8 @@ pub record Demand3 : Type 0 where
       → (before after : List ℕ) (r : Done) → 512 ≤ length before → Reports kind today c before after r
       → let report : List ℕ = reportText kind today (length c) (parsed kind today c) in
       (r .number ≡ 0) × (r .length ≡ length report) × (r .length ≤ 512) × (after ≡ filled report (length before))
+  -- 2026-02: the report's own answer names no place and no tag, whatever the container; those of a broken rule stand in the report
+  pub names-nothing : (kind today : ℕ) (c before after : List ℕ) (r : Done) → Reports kind today c before after r → (r .place ≡ 0) × (r .tag ≡ NoTag)
   -- the agency and the system among the open values are those of the nine numbers whose FASC-N it is
   pub open-numbers : (f : List ℕ) (n : Numbers) → IsFascnOf f n → (agencyOf f ≡ n .agency) × (systemOf f ≡ n .system)
 

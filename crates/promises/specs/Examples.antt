@@ -249,8 +249,9 @@ examples =
     -- no such kind, and no container
     ∷ checks 12 chuid 0 1 0 NoTag 0 []
     ∷ checks 2 [] 67 10 0 NoTag 0 []
-    -- 2026-02: a broken FASC-N (P2) in the first element; a repeated one, and one whose length is cut short
+    -- 2026-02: a broken FASC-N (P2) in the first element, and one that runs past the end; a repeated one, and one whose length is cut short
     ∷ breaks 2 (chuidOf (element 0x30 (p1 0xEA))) 17 2 (Of 0x30)
+    ∷ breaks 2 (chuidOf (0x30 ∷ 26 ∷ p1 0xEB)) 12 2 (Of 0x30)
     ∷ breaks 2 (chuidOf (element 0x30 (p1 0xEB) ++ element 0x30 (p1 0xEB))) 14 29 (Of 0x30)
     ∷ breaks 2 (chuidOf (element 0x30 (p1 0xEB) ++ (0x34 ∷ 0x81 ∷ []))) 11 29 (Of 0x34)
     -- 15: another element is found, and its tag is named, not that of the row passed over; a row is missing at the end, and there is none to name

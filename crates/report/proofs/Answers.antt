@@ -1,7 +1,7 @@
 -- What `report` answers: 1, 2, 3, 4, or the report of what was read. Assumes nothing.
 use Prim.Native.Nat.{ℕ, _≤_, _<_}
 use mathlib.Core.Logic.{inl, inr}
-use mathlib.Core.Path.{_≡_}
+use mathlib.Core.Path.{_≡_, refl}
 use mathlib.Core.Bool.{true, false}
 use mathlib.Core.List.{List}
 use lib.Dec.{ltb, leb}
@@ -13,7 +13,8 @@ use Rattle.dates.specs.Date.{isDate}
 use Rattle.dates.proofs.Dates.{date-exact}
 use Rattle.kinds.specs.Tables.{isKind}
 use Rattle.verdicts.specs.Verdicts.{outright}
-use Rattle.verdicts.specs.Output.{Output, refusal, text}
+use Rattle.verdicts.specs.Output.{Output, refusal, text, doneOf}
+use Rattle.verdicts.specs.declared.Tag.the-variants.{NoTag}
 use Rattle.verdicts.specs.declared.Fault.{Fault}
 use Rattle.verdicts.specs.declared.Fault.the-variants.{UnknownKind, NoDate, SmallRoom, LargeContainer, LongReport}
 use Rattle.container.specs.Container.{Values, Conforms, largest}
@@ -57,7 +58,7 @@ module _ (kind today : ℕ) (c : List ℕ) (room : ℕ) where
   conforming-output b vs h l =
       rw (conforms-parsed kind today c b vs h) at (report-0 (kind-exact kind .1 (h .kind-is)) (date-exact today .1 (h .date-is)) l (h .size-is) b)
 
-  -- all that a call can answer: a refusal without a place, or a whole report in a room of at least 512 bytes
+  -- all that a call can answer: a refusal without a place and a tag, or a whole report in a room of at least 512 bytes
   pub report-cases : (P : Output → Type 0) → ((f : Fault) → P (refusal (outright f))) → ((t : List ℕ) → 512 ≤ room → length t ≤ 512 → P (text t)) → P (reportOutput kind today c room)
   unfolding reportOutput
   report-cases P refuse give =
@@ -84,3 +85,7 @@ module _ (kind today : ℕ) (c : List ℕ) (room : ℕ) where
             | inl g ↦ rw g (refuse LongReport)
             | inr g ↦ rw g (give t l (ltb-false _ _ g))
           ]
+
+-- so its own answer names no place and no tag
+pub names-nothing : (kind today : ℕ) (c : List ℕ) (room : ℕ) → let d = doneOf (reportOutput kind today c room) in (d .place ≡ 0) × (d .tag ≡ NoTag)
+names-nothing kind today c room = report-cases kind today c room (λ o. (doneOf o .place ≡ 0) × (doneOf o .tag ≡ NoTag)) (λ f. (refl, refl)) (λ t l s. (refl, refl))

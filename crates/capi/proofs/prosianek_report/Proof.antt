@@ -1,13 +1,13 @@
 -- `capi::prosianek_report` meets its contract: no refusal of a report has a place or a tag. Assumes nothing.
 use Prim.Native.Nat.{ℕ}
-use mathlib.Core.Path.{_≡_, refl, sym, ap, ap₂, _∙_}
+use mathlib.Core.Path.{_≡_, sym, ap, ap₂, _∙_}
 use lib.ListN.{length}
 use Rattle.verdicts.specs.Output.{doneOf}
 use Rattle.verdicts.specs.declared.Tag.{Tag}
 use Rattle.verdicts.specs.declared.Tag.the-variants.{NoTag}
 use Rattle.verdicts.specs.declared.Done.{Done}
 use Rattle.report.specs.Calls.{reportOutput}
-use Rattle.report.proofs.Answers.{report-cases}
+use Rattle.report.proofs.Answers.{names-nothing}
 use borrow.Author.Needs.{needs}
 use Rattle.capi.proofs.prosianek_report.Statement.{statement}
 use Rattle.capi.proofs.prosianek_report.Tie as tie
@@ -22,8 +22,7 @@ returns c =
     let r = c .before .before in
     let a = r .before .before .before .before .args in
     let o = reportOutput (a .kind) (a .today) (a .container .now) (length (a .room .now)) in
-    let z : (doneOf o .place ≡ 0) × (doneOf o .tag ≡ NoTag) =
-    report-cases (a .kind) (a .today) (a .container .now) (length (a .room .now)) (λ o. (doneOf o .place ≡ 0) × (doneOf o .tag ≡ NoTag)) (λ f. (refl, refl)) (λ t l s. (refl, refl)) in
+    let z = names-nothing (a .kind) (a .today) (a .container .now) (length (a .room .now)) in
     record { answers = record { leaves = record { answer = placeless (doneOf o) z (r .report .ensures .leaves .answer); room = r .report .ensures .leaves .room } } }
 
 pub prosianek-report-spec : {M : Type 1} → statement M
