@@ -1,25 +1,23 @@
 -- 2026-02: the tag of the first broken rule is the one that stands at its place; there is none exactly where the place is 0 or the container's end; and a
 -- tag has one byte or two. Assumes nothing.
-use Prim.Native.Nat.{ℕ, _+_, _≤_, _<_}
+use Prim.Native.Nat.{ℕ, _+_, _<_}
 use mathlib.Core.Logic.{_⊎_, inl, inr, _↔_}
-use mathlib.Core.Path.{_≡_, refl, sym, ap, _∙_}
+use mathlib.Core.Path.{_≡_, sym, ap, _∙_}
 use mathlib.Core.List.{List, [], _∷_, _++_}
 use native.Mathlib.Omega.{arith}
-use lib.ListN.{length, take, drop, length-append, length-take, length-drop, take-append-drop}
+use lib.ListN.{length, take, drop, length-append, length-take, length-drop}
 use lib.Seq.{drop-drop, drop-append-seam, take-append-seam}
 use borrow.Author.Tests.{lt-ltb}
 use Rattle.laws.specs.Bytes.{Bytes}
 use Rattle.laws.proofs.Bases.{below-drop}
 use Rattle.lengths.specs.Length.{lengthBytes}
-use Rattle.lengths.proofs.Writing.{some-bytes}
 use Rattle.kinds.specs.Tables.{Table, table}
 use Rattle.verdicts.specs.Verdicts.{outright}
-use Rattle.verdicts.specs.declared.Tag.{Tag}
 use Rattle.verdicts.specs.declared.Tag.the-variants.{NoTag, Of}
 use Rattle.verdicts.specs.declared.Fault.{Fault}
 use Rattle.verdicts.specs.declared.Finding.{Finding}
 use Rattle.container.specs.Container.{tagBytes, long, encode}
-use Rattle.container.specs.InOrder.{IsTag, of-table, a-byte, IsLength, Wrong, at-end, at-element, First, Named, no-kind, no-date, too-large, outer-tag, outer-length, outer-end, in-element}
+use Rattle.container.specs.InOrder.{IsTag, of-table, a-byte, at-end, at-element, First, Named, no-kind, no-date, too-large, outer-tag, outer-length, outer-end, in-element}
 use Rattle.container.proofs.Tags.{Plain, short, double, Tags, tags, has-plain, no-tag}
 
 pub not-both : {t : ℕ} → NoTag ≡ Of t → ⊥

@@ -1,6 +1,6 @@
--- A container read: for each row its value and where it stands, or the first rule that it breaks, its place and the tag there. `proofs/` shows that values are read
--- exactly where the container conforms (`Promise`), that they stand where it says (`Lying`), and that a fault is read exactly where it is the first broken
--- rule (`Named`).
+-- A container read: for each row its value and where it stands, or the first rule that it breaks, its place and the tag there. `proofs/` shows that values
+-- are read exactly where the container conforms (`Promise`), that they stand where it says (`Lying`), and that a fault is read exactly where it is the
+-- first broken rule (`Named`).
 use Prim.Native.Nat.{ℕ, _+_}
 use mathlib.Core.Bool.{cond, _&&_}
 use mathlib.Core.Option.{Option, none, some}

@@ -7,13 +7,12 @@ use mathlib.Core.Option.{Option, none, some}
 use mathlib.Core.List.{List, []}
 use native.Mathlib.Omega.{arith}
 use lib.ListN.{length}
-use lib.Dec.{ltb, leb, eqb}
+use lib.Dec.{ltb, eqb}
 use borrow.Author.Tests.{ltb-false}
 use Rattle.laws.specs.Room.{filled}
 use Rattle.laws.proofs.Rooms.{filled-none}
 use Rattle.laws.proofs.Cases.{which}
-use Rattle.dates.specs.Date.{isDate}
-use Rattle.kinds.specs.Tables.{table, isKind}
+use Rattle.kinds.specs.Tables.{table}
 use Rattle.fascn.specs.Fascn.{encoded, inRange}
 use Rattle.fascn.specs.Reading.{valuesOf, framed, decoded}
 use Rattle.fascn.specs.Calls.{status, output, Encoded}
@@ -22,16 +21,15 @@ use Rattle.fascn.specs.declared.Decoded.{Decoded}
 use Rattle.fascn.proofs.Packing.{length-encoded}
 use Rattle.verdicts.specs.Verdicts.{numberOf, tagNumber}
 use Rattle.verdicts.specs.declared.Fault.{Fault}
+use Rattle.verdicts.specs.declared.Done.{Done}
 use Rattle.verdicts.proofs.Apart.{never-zero}
 use Rattle.verdicts.specs.declared.Fault.the-variants.{SmallRoom, LongNumber, NoElement, BadFascn}
-use Rattle.verdicts.specs.declared.Outcome.{Outcome}
-use Rattle.verdicts.specs.declared.Outcome.the-variants.{Fine, Broken}
-use Rattle.container.specs.Container.{Values, container, largest}
 use Rattle.container.specs.Reading.{Parsed, values, fault, Part, located}
-use Rattle.sheet.specs.Calls.{Given, short, fits, Says, breaks, conforms}
+use Rattle.sheet.specs.Calls.{Given, short, fits, Says, breaks as rule-broken, conforms}
 use Rattle.sheet.specs.declared.Checked.{Checked}
-use Rattle.sections.specs.Opened.{opened, judged}
-use Rattle.writing.specs.Writing.{roomy, sizedOut, judgedOut, openedOut, writeOutput}
+use Rattle.writing.specs.Writing.{writeOutput}
+use Rattle.writing.specs.Calls.{Puts, breaks, writes}
+use Rattle.writing.proofs.Calls.{puts}
 use Rattle.views.specs.Views.{partOf, shown, viewOf, viewed}
 use Rattle.report.specs.Calls.{reportOutput}
 use Rattle.report.proofs.Answers.{report-cases}
@@ -63,38 +61,6 @@ decoded-numbered s = elim (which (eqb (length s) 25 && framed (valuesOf s))) [
 
 -- ---- every output goes into its room
 
-roomy-fits : (t : List ℕ) (room : ℕ) → Fits room (roomy t room)
-roomy-fits t room = elim (which (ltb room (length t))) [
-  | inl l ↦ rw l tt
-  | inr l ↦ rw l (ltb-false _ _ l)
-]
-
-write-fits : (kind today : ℕ) (s : List ℕ) (room : ℕ) → Fits room (writeOutput kind today s room)
-unfolding writeOutput
-write-fits kind today s room =
-    elim (which (isKind kind)) [
-      | inl k ↦
-          elim (which (isDate today)) [
-            | inl d ↦ rw (k, d) (whole (opened (table kind) s))
-            | inr d ↦ rw (k, d) tt
-          ]
-      | inr k ↦ rw k tt
-    ]
-  where
-    sized : (c : List ℕ) → Fits room (sizedOut c room)
-    sized c = elim (which (leb (length c) largest)) [
-      | inl l ↦ rw l (roomy-fits c room)
-      | inr l ↦ rw l tt
-    ]
-
-    ruled : (o : Outcome) (c : List ℕ) → Fits room (judgedOut o c room)
-    ruled Fine c = sized c
-    ruled (Broken f) c = tt
-
-    whole : (o : Option Values) → Fits room (openedOut kind today o room)
-    whole none = tt
-    whole (some vs) = ruled (judged today (table kind) vs 0) (container kind vs)
-
 report-fits : (kind today : ℕ) (c : List ℕ) (room : ℕ) → Fits room (reportOutput kind today c room)
 report-fits kind today c room = report-cases kind today c room (Fits room) (λ f. tt) (λ t l s. omega arith)
 
@@ -105,8 +71,14 @@ given-clean {d = d} (short s m l z) = rw (m, l) (left-nothing d (inl refl) (z �
 given-clean {t} {d} (fits s m l z) = rw (m, l) (left-text t d refl s z, left-text t d refl s z)
 
 check-clean : {kind today : ℕ} {c d e : List ℕ} {r : Checked} → Says kind today c d e r → Clean d e (r .verdict .number) (r .length) × Clean d e (r .room) (r .length)
-check-clean {d = d} (breaks f n a z) = rw a (left-nothing d (inr (f .fault, refl)) (z ∙ filled-none (length d)), left-nothing d (inl refl) (z ∙ filled-none (length d)))
+check-clean {d = d} (rule-broken f n a z) = rw a (left-nothing d (inr (f .fault, refl)) (z ∙ filled-none (length d)), left-nothing d (inl refl) (z ∙ filled-none (length d)))
 check-clean (conforms vs k a g) = rw a (given-clean g)
+
+-- ---- a write
+
+write-clean : {kind today : ℕ} {s d e : List ℕ} {r : Done} → Puts kind today s d e r → Clean d e (r .number) (r .length)
+write-clean {d = d} (breaks f w a z) = rw a (left-nothing d (inr (f .fault, refl)) (z ∙ filled-none (length d)))
+write-clean {d = d} (writes vs c i k h a z) = rw a (left-text c d refl h z)
 
 -- ---- encoding: 7, 3, or the 25 bytes
 
@@ -133,7 +105,7 @@ encode-clean n d e k l =
 pub demand-1 : Demand1
 demand-1 = record {
   check-answers = λ kind today c before b. (_, _, answered b refl refl);
-  write-answers = λ kind today s before. (_, _, record { leaves = answer (writeOutput kind today s (length before)) before });
+  write-answers = λ kind today s before b. (_, _, record { puts = puts b (answer (writeOutput kind today s (length before)) before) });
   view-answers = λ kind today c element at. let v = viewed kind today c element in (
     v .verdict .number,
     v .verdict .place,
@@ -147,7 +119,7 @@ demand-1 = record {
   decode-answers = λ s b. (decoded s, is-decoded s b refl, decoded-numbered s);
   encode-answers = λ n before. (_, _, record { leaves = record { answer = refl; room = refl } });
   check-clean = λ kind today c before after r h. check-clean (h .says);
-  write-clean = λ kind today s before after r h. clean (writeOutput kind today s (length before)) before (write-fits kind today s (length before)) (h .leaves);
+  write-clean = λ kind today s before after r h. write-clean (h .puts);
   report-clean = λ kind today c before after r h. clean (reportOutput kind today c (length before)) before (report-fits kind today c (length before)) (h .leaves);
   encode-clean = λ n before after number h. encode-clean n before after number (h .leaves);
   decode-clean = λ s r d z. let e = decoded-else s d z in (ap (λ (x : Decoded). x .number) e, ap (λ (x : Decoded). x .numbers) e);

@@ -27,7 +27,7 @@ use Rattle.verdicts.specs.declared.Finding.{Finding}
 use Rattle.verdicts.specs.declared.Outcome.the-variants.{Broken}
 use Rattle.verdicts.specs.declared.Verdict.{Verdict}
 use Rattle.verdicts.specs.declared.Done.{Done}
-use Rattle.verdicts.specs.Output.{Output, refusal, text, doneOf}
+use Rattle.verdicts.specs.Output.{refusal, doneOf}
 use Rattle.verdicts.proofs.Apart.{never-zero, told-apart}
 use Rattle.kinds.specs.Tables.{table}
 use Rattle.container.specs.Container.{Values, tagBytes, long, Conforms}
@@ -39,10 +39,11 @@ use Rattle.container.proofs.Tagged.{not-both, at-place, none-when}
 use Rattle.sheet.specs.Sheet.{sheetOf, IsSheet}
 use Rattle.sheet.specs.Calls.{Given, short, fits, Says, breaks, conforms}
 use Rattle.sheet.specs.declared.Checked.{Checked}
-use Rattle.sheet.proofs.Sheets.{conforming-sheet, conforming-some}
+use Rattle.sheet.proofs.Sheets.{conforming-sheet, conforming-bytes, conforming-some}
 use Rattle.sheet.proofs.Bound.{sheet-bound}
-use Rattle.writing.specs.Writing.{writeOutput}
 use Rattle.writing.specs.InOrder.{Refused}
+use Rattle.writing.specs.Calls.{Puts, breaks as unfit, writes}
+use Rattle.writing.proofs.Calls.{leaves}
 use Rattle.writing.proofs.Promise.{accepted, written-bytes, read-write}
 use Rattle.writing.proofs.Named.{refused-exact, row-tag}
 use Rattle.views.specs.Views.{View, viewed}
@@ -51,7 +52,7 @@ use Rattle.prosianek.specs.Calls.{Checks, Writes, Views}
 use Rattle.prosianek.proofs.Checking.{judged, given}
 use Rattle.prosianek.proofs.Decoding.{decoded-once, decoded-0}
 use Rattle.promises.specs.Demands.{Shown, Demand2}
-use Rattle.promises.proofs.Rooms.{text-of, refusal-of, gave}
+use Rattle.promises.proofs.Rooms.{gave}
 
 -- ---- the first broken rule
 
@@ -146,53 +147,43 @@ module _ {kind today : ℕ} {c before after : List ℕ} {r : Checked} where
 -- ---- sheets
 
 module _ (kind today : ℕ) where
-  writes : (s before after : List ℕ) (r : Done) → Bytes s → Writes kind today s before after r → r .number ≡ 0
-      → (vs : Values) × IsSheet (table kind) vs s × Conforms kind today vs (take (r .length) after)
-  writes s before after r b h z =
-      let t = text-of (writeOutput kind today s (length before)) before (h .leaves) z in
-      let v = accepted kind today s (length before) b (t .0) .0 (t .1) in
-      (v .0, v .1, rw (t .2) (v .2))
+  -- a write that answered 0, and one that did not
+  wrote : {s before after : List ℕ} {r : Done} → Puts kind today s before after r → r .number ≡ 0
+      → (vs : Values) × (c : List ℕ) × IsSheet (table kind) vs s × Conforms kind today vs c × (length c ≤ length before) × (take (r .length) after ≡ c)
+  wrote (unfit f w a z) n = absurd (never-zero (f .fault) (rw a at n))
+  wrote {before = before} (writes vs c i k h a z) n = (vs, c, i, k, h, rw (a, z) (filled-front c (length before)))
+
+  refused : {s before after : List ℕ} {r : Done} → Puts kind today s before after r → (r .number ≡ 0 → ⊥) → (f : Finding) × (r ≡ doneOf (refusal f)) × Refused kind today s (length before) f
+  refused (unfit f w a z) n = (f, a, w)
+  refused (writes vs c i k h a z) n = absurd (n (rw a))
 
   accepts : (s before after : List ℕ) (r : Done) → Bytes s → Writes kind today s before after r
       → (r .number ≡ 0) ↔ ((vs : Values) × (c : List ℕ) × IsSheet (table kind) vs s × Conforms kind today vs c × (length c ≤ length before))
   accepts s before after r b h = (
-    λ z. let t = text-of (writeOutput kind today s (length before)) before (h .leaves) z in
-        let v = accepted kind today s (length before) b (t .0) .0 (t .1) in
-        (v .0, t .0, v .1, v .2, v .3),
-    λ v. gave before (accepted kind today s (length before) b (v .1) .1 (v .0, v .2, v .3, v .4)) (h .leaves) .0,
+    λ z. let (vs, c, i, k, l, e) = wrote (h .puts) z in (vs, c, i, k, l),
+    λ v. gave before (accepted kind today s (length before) b (v .1) .1 (v .0, v .2, v .3, v .4)) (leaves b (h .puts)) .0,
   )
 
-  -- otherwise it is refused
-  write-named : (s before after : List ℕ) (r : Done) → Bytes s → Writes kind today s before after r → (r .number ≡ 0 → ⊥)
-      → (f : Finding) × (r ≡ doneOf (refusal f)) × Refused kind today s (length before) f
-  write-named s before after r b h z =
-      let (f, e, a) = refusal-of (writeOutput kind today s (length before)) before (h .leaves) z in
-      (f, a, refused-exact kind today s (length before) b f .0 e)
-
   write-only : (s before after : List ℕ) (r : Done) → Bytes s → Writes kind today s before after r → (f : Finding) → Refused kind today s (length before) f → r ≡ doneOf (refusal f)
-  write-only s before after r b h f w = h .leaves .answer ∙ ap doneOf (refused-exact kind today s (length before) b f .1 w)
+  write-only s before after r b h f w = leaves b (h .puts) .answer ∙ ap doneOf (refused-exact kind today s (length before) b f .1 w)
 
-  write-tag : (s before after : List ℕ) (r : Done) → Bytes s → Writes kind today s before after r → (t : ℕ) → r .tag ≡ Of t → t < 65536
-  write-tag s before after r b h t e = go (writeOutput kind today s (length before)) refl (h .leaves .answer)
-    where
-      go : (o : Output) → writeOutput kind today s (length before) ≡ o → r ≡ doneOf o → t < 65536
-      go (text u) q a = absurd (not-both (rw a at e))
-      go (refusal f) q a = row-tag kind today s (length before) f (refused-exact kind today s (length before) b f .0 q) t (rw a at e)
+  write-tag : {s before after : List ℕ} {r : Done} → Puts kind today s before after r → (t : ℕ) → r .tag ≡ Of t → t < 65536
+  write-tag {s} {before} (unfit f w a z) t e = row-tag kind today s (length before) f w t (rw a at e)
+  write-tag (writes vs c i k h a z) t e = absurd (not-both (rw a at e))
 
   there : (c before after : List ℕ) (r : Checked) → Bytes c → Checks kind today c before after r → r .verdict .number ≡ 0 → r .room ≡ 0
       → (before₂ after₂ : List ℕ) (r₂ : Done) → Writes kind today (take (r .length) after) before₂ after₂ r₂ → length c ≤ length before₂
       → (r₂ .number ≡ 0) × (take (r₂ .length) after₂ ≡ c)
   there c before after r b h n z before₂ after₂ r₂ k l =
       let (vs, f, t) = sheet-whole h n z in
-      gave before₂ (rw t (read-write kind today c b vs f (length before₂) l)) (k .leaves)
+      gave before₂ (rw t (read-write kind today c b vs f (length before₂) l)) (leaves (rw t (conforming-bytes kind today vs c f b)) (k .puts))
 
   back : (s before after : List ℕ) (r : Done) → Bytes s → Writes kind today s before after r → r .number ≡ 0
       → (before₂ after₂ : List ℕ) (r₂ : Checked) → Checks kind today (take (r .length) after) before₂ after₂ r₂
       → (r₂ .verdict .number ≡ 0) × (length s ≤ length before₂ → (r₂ .room ≡ 0) × (take (r₂ .length) after₂ ≡ s))
   back s before after r b h z before₂ after₂ r₂ k =
-      let (c, e, t) = text-of (writeOutput kind today s (length before)) before (h .leaves) z in
-      let (vs, i, f, l) = accepted kind today s (length before) b c .0 e in
-      let bc = written-bytes kind today s (length before) b c e in
+      let (vs, c, i, f, l, t) = wrote (h .puts) z in
+      let bc = written-bytes kind today s (length before) b c (accepted kind today s (length before) b c .1 (vs, i, f, l)) in
       let k′ : Checks kind today c before₂ after₂ r₂ = rw t at k in
       let g = given bc k′ vs f in (
         rw (judged bc k′ .answer) (exactly-when kind today c bc .1 (vs, f)),
@@ -281,11 +272,11 @@ demand-2 = record {
   sheet-values = λ kind today c before after r h n z.
       let (vs, f, t) = sheet-whole h n z in
       (vs, f, rw t (conforming-sheet kind today vs c f));
-  write-values = writes;
+  write-values = λ kind today s before after r h z. let (vs, c, i, k, l, e) = wrote kind today (h .puts) z in (vs, i, rw e k);
   accepted-when = accepts;
-  write-first-named = write-named;
+  write-first-named = λ kind today s before after r h. refused kind today (h .puts);
   write-only-first = write-only;
-  write-tag-is-none = λ kind today s before after r b h. none-told (r .tag) (write-tag kind today s before after r b h);
+  write-tag-is-none = λ kind today s before after r h. none-told (r .tag) (write-tag kind today (h .puts));
   room-for-sheet = λ kind today c before after r h. room-for-sheet (h .says);
   read-then-write = there;
   write-then-read = back;

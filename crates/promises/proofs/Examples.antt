@@ -38,6 +38,7 @@ use Rattle.container.proofs.Promise.{exactly-when}
 use Rattle.sheet.specs.Sheet.{sheetOf}
 use Rattle.sheet.specs.declared.Checked.{Checked}
 use Rattle.writing.specs.Writing.{writeOutput}
+use Rattle.writing.proofs.Calls.{leaves}
 use Rattle.prosianek.proofs.Checking.{answer, output, only}
 use Rattle.promises.specs.Examples.{Example, fascn-of, no-fascn, spells, no-length, date, no-date, kept, late, conforms, breaks, checks, refuses, today, Holds, All, examples}
 use Rattle.promises.proofs.Demand2.{first-named}
@@ -78,7 +79,7 @@ tested (checks kind c room number place tag three sheet) =
 tested (refuses kind s room number place tag) =
     let o = writeOutput kind today s room in
     let d = doneOf o in
-    eqb (d .number) number && eqb (d .place) place && sameTag (d .tag) tag && eqb (d .length) 0 && same (bytesOf o) []
+    areBytes s && eqb (d .number) number && eqb (d .place) place && sameTag (d .tag) tag && eqb (d .length) 0 && same (bytesOf o) []
 
 allTested : List Example → Bool
 allTested [] = true
@@ -132,13 +133,13 @@ unfolding tested
 refuses-so kind s room number place tag t before after r q h =
     let o = writeOutput kind today s room in
     let v = doneOf o in
-    let d = all-true (eqb (v .number) number ∷ eqb (v .place) place ∷ sameTag (v .tag) tag ∷ eqb (v .length) 0 ∷ same (bytesOf o) [] ∷ []) t in
-    let n = eqb-true _ _ (d 0) in
-    let p = eqb-true _ _ (d 1) in
-    let g = same-tag _ _ (d 2) in
-    let l = eqb-true _ _ (d 3) in
-    let w : Leaves o before after r = rw q at (h .leaves) in
-    (w .answer ∙ (λ i. record { number = n i; place = p i; tag = g i; length = l i }), w .room ∙ rw (q, same-eq (bytesOf o) [] (d 4)) (sym (filled-none room)))
+    let d = all-true (areBytes s ∷ eqb (v .number) number ∷ eqb (v .place) place ∷ sameTag (v .tag) tag ∷ eqb (v .length) 0 ∷ same (bytesOf o) [] ∷ []) t in
+    let n = eqb-true _ _ (d 1) in
+    let p = eqb-true _ _ (d 2) in
+    let g = same-tag _ _ (d 3) in
+    let l = eqb-true _ _ (d 4) in
+    let w : Leaves o before after r = rw q at (leaves (are-bytes s (d 0)) (h .puts)) in
+    (w .answer ∙ (λ i. record { number = n i; place = p i; tag = g i; length = l i }), w .room ∙ rw (q, same-eq (bytesOf o) [] (d 5)) (sym (filled-none room)))
 
 so : (e : Example) → tested e ≡ true → Holds e
 unfolding tested isNone

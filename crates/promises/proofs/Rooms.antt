@@ -1,33 +1,21 @@
 -- What a call left in a room, by its output. Assumes nothing.
 use Prim.Native.Nat.{ℕ, _≤_}
 use mathlib.Core.Logic.{inl, inr}
-use mathlib.Core.Path.{_≡_, refl, sym, ap, _∙_}
+use mathlib.Core.Path.{_≡_, refl, sym}
 use mathlib.Core.List.{List, []}
 use native.Mathlib.Omega.{arith}
 use lib.ListN.{length, take}
 use Rattle.laws.specs.Room.{filled}
 use Rattle.laws.proofs.Rooms.{length-filled, filled-none, filled-front, filled-behind}
 use Rattle.verdicts.specs.Output.{Output, refusal, text, bytesOf, doneOf, Leaves}
-use Rattle.verdicts.specs.declared.Finding.{Finding}
 use Rattle.verdicts.specs.declared.Done.{Done}
-use Rattle.verdicts.proofs.Apart.{never-zero}
 use Rattle.promises.specs.Demands.{Numbered, Clean}
 
 -- every output has an answer
 pub answer : (o : Output) (d : List ℕ) → Leaves o d (filled (bytesOf o) (length d)) (doneOf o)
 answer o d = record { answer = refl; room = refl }
 
--- the output of a call that answered 0
-pub text-of : (o : Output) (d : List ℕ) {e : List ℕ} {r : Done} → Leaves o d e r → r .number ≡ 0 → (t : List ℕ) × (o ≡ text t) × (take (r .length) e ≡ t)
-text-of (refusal f) d l z = absurd (never-zero (f .fault) (sym (ap (λ (x : Done). x .number) (l .answer)) ∙ z))
-text-of (text t) d l z = (t, refl, rw (l .answer, l .room) (filled-front t (length d)))
-
--- and of one that did not
-pub refusal-of : (o : Output) (d : List ℕ) {e : List ℕ} {r : Done} → Leaves o d e r → (r .number ≡ 0 → ⊥) → (f : Finding) × (o ≡ refusal f) × (r ≡ doneOf (refusal f))
-refusal-of (refusal f) d l z = (f, refl, l .answer)
-refusal-of (text t) d l z = absurd (z (ap (λ (x : Done). x .number) (l .answer)))
-
--- and what a call left that has an output
+-- what a call left that has an output
 pub gave : {o : Output} {t : List ℕ} (d : List ℕ) {e : List ℕ} {r : Done} → o ≡ text t → Leaves o d e r → (r .number ≡ 0) × (take (r .length) e ≡ t)
 gave {t = t} d q l = (rw (l .answer, q), rw (l .answer, l .room, q) (filled-front t (length d)))
 

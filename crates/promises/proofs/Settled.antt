@@ -11,6 +11,7 @@ use Rattle.verdicts.specs.declared.Tag.{Tag}
 use Rattle.verdicts.specs.declared.Done.{Done}
 use Rattle.verdicts.proofs.Outputs.{settled as settled-output}
 use Rattle.sheet.specs.declared.Checked.{Checked}
+use Rattle.writing.proofs.Calls.{leaves}
 use Rattle.prosianek.proofs.Checking.{only}
 use Rattle.prosianek.proofs.Decoding.{decoded-once}
 use Rattle.capi.specs.Calls.{numbersOf}
@@ -22,7 +23,7 @@ settled = record {
       let (a, z) = only b x in
       let (e, w) = only b y in
       (a ∙ rw h (sym e), z ∙ rw h (sym w));
-  one-write = λ kind today s before₁ before₂ after₁ after₂ r₁ r₂ h a b. settled-output _ before₁ before₂ h (a .leaves) (rw h (b .leaves));
+  one-write = λ kind today s before₁ before₂ after₁ after₂ r₁ r₂ y h a b. settled-output _ before₁ before₂ h (leaves y (a .puts)) (rw h (leaves y (b .puts)));
   one-view = λ kind today c element at n₁ n₂ p₁ p₂ t₁ t₂ part₁ part₂ bytes₁ bytes₂ a b. (
     a .shows .number-is ∙ sym (b .shows .number-is),
     a .shows .place-is ∙ sym (b .shows .place-is),
@@ -63,8 +64,8 @@ settled-for-c = record {
         ap (λ (r : Checked). r .length) e,
         f,
       );
-  one-write = λ kind today s before₁ before₂ after₁ after₂ n₁ n₂ p₁ p₂ t₁ t₂ l₁ l₂ h a b.
-      let (e, f) = settled .one-write kind today s before₁ before₂ after₁ after₂ _ _ h (a .answers) (b .answers) in (
+  one-write = λ kind today s before₁ before₂ after₁ after₂ n₁ n₂ p₁ p₂ t₁ t₂ l₁ l₂ y h a b.
+      let (e, f) = settled .one-write kind today s before₁ before₂ after₁ after₂ _ _ y h (a .answers) (b .answers) in (
         ap (λ (d : Done). d .number) e,
         ap (λ (d : Done). d .place) e,
         same-tag (a .tag-is) (b .tag-is) (ap (λ (d : Done). d .tag) e),

@@ -64,7 +64,7 @@ pub record Clean (before after : List ℕ) (number size : ℕ) : Type 0 where
 pub record Demand1 : Type 0 where
   -- there is an answer, whatever is given and whatever a room held
   pub check-answers : (kind today : ℕ) (c before : List ℕ) → Bytes c → (after : List ℕ) × (r : Checked) × Checks kind today c before after r
-  pub write-answers : (kind today : ℕ) (s before : List ℕ) → (after : List ℕ) × (r : Done) × Writes kind today s before after r
+  pub write-answers : (kind today : ℕ) (s before : List ℕ) → Bytes s → (after : List ℕ) × (r : Done) × Writes kind today s before after r
   pub view-answers : (kind today : ℕ) (c : List ℕ) (element : ℕ) (at : ℕ × ℕ)
       → (number place tag : ℕ) × (part : ℕ × ℕ) × (bytes : List ℕ) × Views kind today c element at number place tag part bytes × Numbered number
   pub report-answers : (kind today : ℕ) (c before : List ℕ) → (after : List ℕ) × (r : Done) × Reports kind today c before after r
@@ -135,17 +135,17 @@ pub record Demand2 : Type 0 where
   -- a sheet that was read holds the container's values, and a container that was written has the sheet's
   pub sheet-values : (kind today : ℕ) (c before after : List ℕ) (r : Checked) → Checks kind today c before after r → r .verdict .number ≡ 0 → r .room ≡ 0
       → (vs : Values) × Conforms kind today vs c × IsSheet (table kind) vs (take (r .length) after)
-  pub write-values : (kind today : ℕ) (s before after : List ℕ) (r : Done) → Bytes s → Writes kind today s before after r → r .number ≡ 0
+  pub write-values : (kind today : ℕ) (s before after : List ℕ) (r : Done) → Writes kind today s before after r → r .number ≡ 0
       → (vs : Values) × IsSheet (table kind) vs s × Conforms kind today vs (take (r .length) after)
   -- a sheet is accepted exactly when it holds allowed values whose container fits the room
   pub accepted-when : (kind today : ℕ) (s before after : List ℕ) (r : Done) → Bytes s → Writes kind today s before after r
       → (r .number ≡ 0) ↔ ((vs : Values) × (c : List ℕ) × IsSheet (table kind) vs s × Conforms kind today vs c × (length c ≤ length before))
   -- otherwise the first rule that it breaks is named, with its place and its row's tag, and nothing else can be: "a written sheet's verdict names the row's tag"
-  pub write-first-named : (kind today : ℕ) (s before after : List ℕ) (r : Done) → Bytes s → Writes kind today s before after r → (r .number ≡ 0 → ⊥)
+  pub write-first-named : (kind today : ℕ) (s before after : List ℕ) (r : Done) → Writes kind today s before after r → (r .number ≡ 0 → ⊥)
       → (f : Finding) × (r ≡ doneOf (refusal f)) × Refused kind today s (length before) f
   pub write-only-first : (kind today : ℕ) (s before after : List ℕ) (r : Done) → Bytes s → Writes kind today s before after r → (f : Finding)
       → Refused kind today s (length before) f → r ≡ doneOf (refusal f)
-  pub write-tag-is-none : (kind today : ℕ) (s before after : List ℕ) (r : Done) → Bytes s → Writes kind today s before after r
+  pub write-tag-is-none : (kind today : ℕ) (s before after : List ℕ) (r : Done) → Writes kind today s before after r
       → (tagNumber (r .tag) ≡ noTag) ↔ (r .tag ≡ NoTag)
   -- a room with six bytes more than the container takes its sheet, and so one of 32,774 takes any
   pub room-for-sheet : (kind today : ℕ) (c before after : List ℕ) (r : Checked) → Checks kind today c before after r → length c + 6 ≤ length before → r .room ≡ 0
@@ -243,7 +243,7 @@ pub record AtTheDesk : Type 0 where
 pub record Settled : Type 0 where
   pub one-check : (kind today : ℕ) (c before₁ before₂ after₁ after₂ : List ℕ) (r₁ r₂ : Checked) → Bytes c → length before₁ ≡ length before₂
       → Checks kind today c before₁ after₁ r₁ → Checks kind today c before₂ after₂ r₂ → (r₁ ≡ r₂) × (after₁ ≡ after₂)
-  pub one-write : (kind today : ℕ) (s before₁ before₂ after₁ after₂ : List ℕ) (r₁ r₂ : Done) → length before₁ ≡ length before₂
+  pub one-write : (kind today : ℕ) (s before₁ before₂ after₁ after₂ : List ℕ) (r₁ r₂ : Done) → Bytes s → length before₁ ≡ length before₂
       → Writes kind today s before₁ after₁ r₁ → Writes kind today s before₂ after₂ r₂ → (r₁ ≡ r₂) × (after₁ ≡ after₂)
   pub one-view : (kind today : ℕ) (c : List ℕ) (element : ℕ) (at : ℕ × ℕ) (n₁ n₂ p₁ p₂ t₁ t₂ : ℕ) (part₁ part₂ : ℕ × ℕ) (bytes₁ bytes₂ : List ℕ)
       → Views kind today c element at n₁ p₁ t₁ part₁ bytes₁ → Views kind today c element at n₂ p₂ t₂ part₂ bytes₂
@@ -259,7 +259,7 @@ pub record SettledForC : Type 0 where
   pub one-check : (kind today : ℕ) (c before₁ before₂ after₁ after₂ : List ℕ) (n₁ n₂ p₁ p₂ t₁ t₂ m₁ m₂ l₁ l₂ : ℕ) → Bytes c → length before₁ ≡ length before₂
       → CChecks kind today c before₁ after₁ n₁ p₁ t₁ m₁ l₁ → CChecks kind today c before₂ after₂ n₂ p₂ t₂ m₂ l₂
       → (n₁ ≡ n₂) × (p₁ ≡ p₂) × (t₁ ≡ t₂) × (m₁ ≡ m₂) × (l₁ ≡ l₂) × (after₁ ≡ after₂)
-  pub one-write : (kind today : ℕ) (s before₁ before₂ after₁ after₂ : List ℕ) (n₁ n₂ p₁ p₂ t₁ t₂ l₁ l₂ : ℕ) → length before₁ ≡ length before₂
+  pub one-write : (kind today : ℕ) (s before₁ before₂ after₁ after₂ : List ℕ) (n₁ n₂ p₁ p₂ t₁ t₂ l₁ l₂ : ℕ) → Bytes s → length before₁ ≡ length before₂
       → CWrites kind today s before₁ after₁ n₁ p₁ t₁ l₁ → CWrites kind today s before₂ after₂ n₂ p₂ t₂ l₂
       → (n₁ ≡ n₂) × (p₁ ≡ p₂) × (t₁ ≡ t₂) × (l₁ ≡ l₂) × (after₁ ≡ after₂)
   pub one-view : (kind today : ℕ) (c : List ℕ) (element n₁ n₂ p₁ p₂ t₁ t₂ o₁ o₂ l₁ l₂ : ℕ)

@@ -15,7 +15,7 @@ use Rattle.verdicts.specs.declared.Done.{Done}
 use Rattle.container.specs.Reading.{verdict}
 use Rattle.sheet.specs.Calls.{Says}
 use Rattle.sheet.specs.declared.Checked.{Checked}
-use Rattle.writing.specs.Writing.{writeOutput}
+use Rattle.writing.specs.Calls.{Puts}
 use Rattle.views.specs.Views.{viewed, Answers}
 use Rattle.report.specs.Calls.{reportOutput}
 
@@ -28,9 +28,10 @@ pub record Judges (kind today : ℕ) (c : List ℕ) (v : Verdict) : Type 0 where
 pub record Checks (kind today : ℕ) (c before after : List ℕ) (r : Checked) : Type 0 where
   pub says : Says kind today c before after r
 
--- "Write: 1, 2, 5, then row by row 15, 16 and the value's rules, with the place of the row's count, then 4, 3": the container of the sheet s
+-- "Write: 1, 2, 5, then row by row 15, 16 and the value's rules, with the place of the row's count, then 4, 3": the container of the sheet s, or the first
+-- broken rule; 2026-02: "a written sheet's verdict names the row's tag"
 pub record Writes (kind today : ℕ) (s before after : List ℕ) (r : Done) : Type 0 where
-  pub leaves : Leaves (writeOutput kind today s (length before)) before after r
+  pub puts : Puts kind today s before after r
 
 -- "View: check, then 6": of the element that has a tag, the number, the place and the tag's number that are stored, and the part that is handed out, which
 -- stands at a block and an offset and has these bytes; the container c stands at the block and the offset `at`

@@ -1,8 +1,8 @@
 -- The first rule that a sheet breaks is the one that is answered, with its place and its row's tag, and no other can be. Assumes nothing.
-use Prim.Native.Nat.{ℕ, _+_, _<_, _≤_}
+use Prim.Native.Nat.{ℕ, _+_, _<_}
 use mathlib.Core.Logic.{inl, inr, _↔_}
 use mathlib.Core.Path.{_≡_, refl, sym, ap, _∙_}
-use mathlib.Core.Bool.{true, false, cond, true≢false}
+use mathlib.Core.Bool.{true≢false}
 use mathlib.Core.Option.{Option, none, some}
 use mathlib.Core.List.{List, [], _∷_, _++_}
 use native.Mathlib.Omega.{arith}
@@ -17,9 +17,8 @@ use Rattle.kinds.specs.Tables.{Entry, Table, table, permitted, IsKind, isKind}
 use Rattle.rules.specs.Rules.{ruleOf}
 use Rattle.rules.proofs.Exact.{broken-exact}
 use Rattle.verdicts.specs.Verdicts.{found}
-use Rattle.verdicts.specs.Output.{Output, refusal, text}
+use Rattle.verdicts.specs.Output.{refusal, text}
 use Rattle.verdicts.specs.declared.Fault.{Fault}
-use Rattle.verdicts.specs.declared.Fault.the-variants.{MissingRow, ElementLength}
 use Rattle.verdicts.specs.declared.Tag.the-variants.{Of}
 use Rattle.verdicts.specs.declared.Finding.{Finding}
 use Rattle.verdicts.specs.declared.Ruling.{Ruling}
@@ -34,7 +33,7 @@ use Rattle.container.proofs.Named.{has-mid}
 use Rattle.container.proofs.Tagged.{not-both, plain-small}
 use Rattle.sheet.specs.Sheet.{sheetOf, Sheeted, IsSheet}
 use Rattle.sections.specs.Opened.{opened, keptOr, judged}
-use Rattle.writing.specs.Writing.{roomy, sizedOut, judgedOut, openedOut, writeOutput}
+use Rattle.writing.specs.Writing.{sizedOut, judgedOut, openedOut, writeOutput}
 use Rattle.writing.specs.InOrder.{Unfit, no-value, not-permitted, bad-value, FirstRow, Refused, no-kind, no-date, torn, in-row, too-large, small-room}
 use Rattle.writing.proofs.Sheets.{opened-exact, AllBytes, sheet-values}
 use Rattle.writing.proofs.Promise.{judged-exact}

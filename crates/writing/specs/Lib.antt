@@ -1,3 +1,4 @@
 pub mod Writing
 pub mod InOrder
+pub mod Calls
 pub mod Passes

@@ -4,11 +4,10 @@ ghost use Prim.Native.Nat.{_<_};
 ghost use lib.ListN.{length};
 ghost use Rattle.laws.specs.Room.{Put};
 ghost use Rattle.kinds.specs.Tables.{table};
-ghost use Rattle.verdicts.specs.Output.{Leaves};
 ghost use Rattle.container.specs.Container.{tagBytes, encode};
 ghost use Rattle.container.specs.Map.{Inside};
 ghost use Rattle.sections.specs.Passes.{lying, Small};
-ghost use Rattle.writing.specs.Writing.{writeOutput};
+ghost use Rattle.writing.specs.Calls.{Puts};
 ghost use Rattle.writing.specs.Passes.{elementBytes, boxed, fitted};
 use container::outer_tag;
 use kinds::Slot;
@@ -96,7 +95,7 @@ fn fitted(plan: Plan, room: usize) -> Plan
 
 // Writes the container of the sheet's values. Only what it leaves of the room is cleared.
 pub fn write(kind: u64, today: u64, sheet: &[u8], container: &mut [u8]) -> Done
-    ensures { λ r. ⌜ Leaves (writeOutput kind today (now (sheet .entry)) (length (now (container .entry)))) (now (container .entry)) (now (container .exit)) r ⌝ }
+    ensures { λ r. ⌜ Puts kind today (now (sheet .entry)) (now (container .entry)) (now (container .exit)) r ⌝ }
 {
     let x = sections::judge(kind, today, sheet);
     let plan = x.plan;

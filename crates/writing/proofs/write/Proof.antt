@@ -2,13 +2,19 @@
 use mathlib.Core.Path.{_∙_}
 use lib.ListN.{length}
 use borrow.Author.Needs.{needs}
+use Rattle.laws.specs.Bytes.{Bytes}
+use Rattle.laws.proofs.Bases.{below-of}
 use Rattle.laws.proofs.Rooms.{taken-whole}
 use Rattle.verdicts.proofs.Outputs.{refuses, gives-over}
 use Rattle.sections.specs.Passes.{lying}
 use Rattle.writing.specs.Passes.{boxed}
 use Rattle.writing.proofs.Ways.{Answer, answered}
+use Rattle.writing.proofs.Calls.{puts}
 use Rattle.writing.proofs.write.Statement.{statement}
 use Rattle.writing.proofs.write.Tie as tie
+
+bytes : (p : tie.After-fitted) → Bytes (p .before .before .before .before .args .sheet .now)
+bytes p = below-of 256 (p .before .before .before .before .args .sheet .now) (λ i. p .before .before .before .shared-slice-known .given i .fits)
 
 -- what is planned, held against the room
 answer : (p : tie.After-fitted) → let a = p .before .before .before .before .args in let x = p .before .judge .result in
@@ -24,7 +30,7 @@ returns c =
     let z = c .before .before .before in
     let f = z .before .before .before in
     let p = f .before .before in
-    refuses (p .before .before .before .before .args .container .now) (rw (f .f .given .1) at (answer p)) (z .clear .ensures) (c .refused .ensures)
+    puts (bytes p) (refuses (p .before .before .before .before .args .container .now) (rw (f .f .given .1) at (answer p)) (z .clear .ensures) (c .refused .ensures))
 
 returns-2 : tie.Need-returns-2
 returns-2 c =
@@ -37,7 +43,8 @@ returns-2 c =
     let t = boxed (a .kind) (n .n .given .0 .0) (lying (a .kind) (x .from) (x .to) (a .sheet .now)) in
     let v = rw (n .n .given .1) at (answer p) in
     let e = w .put-container .ensures in
-    gives-over t (a .container .now) (v .0) (e .count ∙ taken-whole t (a .container .now) (v .1)) (v .1) (e .room) (z .clear2 .ensures) (c .wrote .ensures)
+    puts (bytes p)
+    (gives-over t (a .container .now) (v .0) (e .count ∙ taken-whole t (a .container .now) (v .1)) (v .1) (e .room) (z .clear2 .ensures) (c .wrote .ensures))
 
 pub write-spec : {M : Type 1} → statement M
 write-spec =
