@@ -24,17 +24,16 @@ use Rattle.verdicts.specs.declared.Fault.the-variants.{SmallRoom, NoElement}
 use Rattle.verdicts.specs.declared.Tag.{Tag}
 use Rattle.verdicts.specs.declared.Tag.the-variants.{NoTag, Of}
 use Rattle.verdicts.specs.declared.Finding.{Finding}
-use Rattle.verdicts.specs.declared.Outcome.the-variants.{Broken}
 use Rattle.verdicts.specs.declared.Verdict.{Verdict}
 use Rattle.verdicts.specs.declared.Done.{Done}
 use Rattle.verdicts.specs.Output.{refusal, doneOf}
 use Rattle.verdicts.proofs.Apart.{never-zero, told-apart}
 use Rattle.kinds.specs.Tables.{table}
 use Rattle.container.specs.Container.{Values, tagBytes, long, Conforms}
-use Rattle.container.specs.Reading.{Parsed, values, fault, parsed, outcomeOf, outcome, verdict}
+use Rattle.container.specs.Reading.{Parsed, fault, outcomeOf, outcome, verdict}
 use Rattle.container.specs.InOrder.{Named}
 use Rattle.container.proofs.Named.{named-back, named-exact}
-use Rattle.container.proofs.Promise.{exact, exactly-when, unique, named}
+use Rattle.container.proofs.Promise.{exact, exactly-when, unique}
 use Rattle.container.proofs.Tagged.{not-both, at-place, none-when}
 use Rattle.sheet.specs.Sheet.{sheetOf, IsSheet}
 use Rattle.sheet.specs.Calls.{Given, short, fits, Says, breaks, conforms}
@@ -56,17 +55,6 @@ use Rattle.promises.proofs.Rooms.{gave}
 
 -- ---- the first broken rule
 
-pub first-named : (kind today : ℕ) (c : List ℕ) → Bytes c → (r : Verdict) → r ≡ verdict kind today c → (r .number ≡ 0 → ⊥)
-    → (f : Fault) × (r .number ≡ numberOf f) × Named kind today c (found f (r .place) (r .tag))
-unfolding outcome
-first-named kind today c b r a n = go (parsed kind today c) refl
-  where
-    go : (p : Parsed (List ℕ)) → parsed kind today c ≡ p → (f : Fault) × (r .number ≡ numberOf f) × Named kind today c (found f (r .place) (r .tag))
-    go (values vs) e = absurd (n (rw (a, e)))
-    go (fault f) e =
-        let q : r ≡ verdictOf (Broken f) = a ∙ ap (λ (x : Parsed (List ℕ)). verdictOf (outcomeOf x)) e in
-        (f .fault, ap (λ (v : Verdict). v .number) q, rw q (named kind today c b f e))
-
 only-first : (kind today : ℕ) (c : List ℕ) → Bytes c → (r : Verdict) → r ≡ verdict kind today c → (f : Fault) (place : ℕ) (tag : Tag)
     → Named kind today c (found f place tag) → (r .number ≡ numberOf f) × (r .place ≡ place) × (r .tag ≡ tag)
 unfolding outcome
@@ -83,6 +71,11 @@ none-told NoTag h = (λ e. refl, λ e. refl)
 none-told (Of t) h = (λ e. absurd (told-apart t (h t refl) e), λ e. absurd (not-both (sym e)))
 
 module _ {kind today : ℕ} {c before after : List ℕ} {r : Checked} where
+  first-named : Says kind today c before after r → (r .verdict .number ≡ 0 → ⊥)
+      → (f : Fault) × (r .verdict .number ≡ numberOf f) × Named kind today c (found f (r .verdict .place) (r .verdict .tag))
+  first-named (breaks f n a z) k = rw a (f .fault, refl, n)
+  first-named (conforms vs k a g) n = absurd (n (rw a))
+
   tag-at-place : Bytes c → Says kind today c before after r → (t : ℕ) → r .verdict .tag ≡ Of t → (take (long t) (drop (r .verdict .place) c) ≡ tagBytes t) × (t < 65536)
   tag-at-place b (breaks f n a z) t e = rw a (at-place kind today c f b n t (rw a at e))
   tag-at-place b (conforms vs k a g) t e = absurd (not-both (rw a at e))
@@ -254,7 +247,7 @@ pub demand-2 : Demand2
 demand-2 = record {
   exactly-when = λ kind today c before after r b h. rw (judged b h .answer) (exactly-when kind today c b);
   only-one = unique;
-  first-named = λ kind today c before after r b h. first-named kind today c b (r .verdict) (judged b h .answer);
+  first-named = λ kind today c before after r h. first-named (h .says);
   only-first = λ kind today c before after r b h. only-first kind today c b (r .verdict) (judged b h .answer);
   tag-at-place = λ kind today c before after r b h t e. tag-at-place b (h .says) t e .0;
   no-tag-when = λ kind today c before after r h. no-tag-when (h .says);

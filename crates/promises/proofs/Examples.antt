@@ -29,19 +29,23 @@ use Rattle.plain.specs.Plain.{isUuid, isPolicy, isText, ended, isCreator}
 use Rattle.minutiae.specs.Judged.{pointHolds, pointsHold, viewHead, extent, recordHead, isMinutiae}
 use Rattle.der.specs.Length.{readLength as readDer}
 use Rattle.der.specs.Walk.{headOf, items, judged as walked, certificate}
+use Rattle.verdicts.specs.Verdicts.{numberOf, found, verdictOf}
+use Rattle.verdicts.specs.declared.Fault.{Fault}
+use Rattle.verdicts.specs.declared.Outcome.the-variants.{Broken}
+use Rattle.verdicts.specs.declared.Verdict.{Verdict}
 use Rattle.verdicts.specs.Output.{bytesOf, doneOf, Leaves}
 use Rattle.verdicts.specs.declared.Tag.{Tag}
 use Rattle.verdicts.specs.declared.Tag.the-variants.{NoTag, Of}
 use Rattle.rules.specs.Rules.{ruleOf}
-use Rattle.container.specs.Reading.{element, located, parsed, outcome, verdict}
-use Rattle.container.proofs.Promise.{exactly-when}
+use Rattle.container.specs.Reading.{Parsed, values as read-values, fault, element, located, parsed, outcomeOf, outcome, verdict}
+use Rattle.container.specs.InOrder.{Named}
+use Rattle.container.proofs.Promise.{exactly-when, named}
 use Rattle.sheet.specs.Sheet.{sheetOf}
 use Rattle.sheet.specs.declared.Checked.{Checked}
 use Rattle.writing.specs.Writing.{writeOutput}
 use Rattle.writing.proofs.Calls.{leaves}
 use Rattle.prosianek.proofs.Checking.{answer, output, only}
 use Rattle.promises.specs.Examples.{Example, fascn-of, no-fascn, spells, no-length, date, no-date, kept, late, conforms, breaks, checks, refuses, today, Holds, All, examples}
-use Rattle.promises.proofs.Demand2.{first-named}
 
 -- ---- each row as a test
 
@@ -104,10 +108,22 @@ same-tag NoTag (Of u) e = absurd (true≢false (sym e))
 same-tag (Of t) NoTag e = absurd (true≢false (sym e))
 same-tag (Of t) (Of u) e = ap Of (eqb-true t u e)
 
+-- the verdict of some bytes is the first broken rule
+verdict-named : (kind today : ℕ) (c : List ℕ) → Bytes c → (r : Verdict) → r ≡ verdict kind today c → (r .number ≡ 0 → ⊥)
+    → (f : Fault) × (r .number ≡ numberOf f) × Named kind today c (found f (r .place) (r .tag))
+unfolding outcome
+verdict-named kind today c b r a n = go (parsed kind today c) refl
+  where
+    go : (p : Parsed (List ℕ)) → parsed kind today c ≡ p → (f : Fault) × (r .number ≡ numberOf f) × Named kind today c (found f (r .place) (r .tag))
+    go (read-values vs) e = absurd (n (rw (a, e)))
+    go (fault f) e =
+        let q : r ≡ verdictOf (Broken f) = a ∙ ap (λ (x : Parsed (List ℕ)). verdictOf (outcomeOf x)) e in
+        (f .fault, ap (λ (v : Verdict). v .number) q, rw q (named kind today c b f e))
+
 breaks-so : (kind : ℕ) (c : List ℕ) → Bytes c → (number place : ℕ) (tag : Tag) → (number ≡ 0 → ⊥) → verdict kind today c .number ≡ number → verdict kind today c .place ≡ place
     → verdict kind today c .tag ≡ tag → Holds (breaks kind c number place tag)
 breaks-so kind c b number place tag z n p g =
-    let (f, e, h) = first-named kind today c b (verdict kind today c) refl (λ q. z (sym n ∙ q)) in
+    let (f, e, h) = verdict-named kind today c b (verdict kind today c) refl (λ q. z (sym n ∙ q)) in
     (f, sym n ∙ e, rw (p, g) at h)
 
 by-numbers : (a : Checked) {n p m l : ℕ} {g : Tag} → a .verdict .number ≡ n → a .verdict .place ≡ p → a .verdict .tag ≡ g → a .room ≡ m → a .length ≡ l

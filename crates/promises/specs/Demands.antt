@@ -102,7 +102,7 @@ pub record Demand2 : Type 0 where
       → (r .verdict .number ≡ 0) ↔ ((vs : Values) × Conforms kind today vs c)
   pub only-one : (kind today : ℕ) (c : List ℕ) → Bytes c → (vs ws : Values) → Conforms kind today vs c → Conforms kind today ws c → vs ≡ ws
   -- "otherwise the first broken rule and its place are named", 2026-02: with "the element's tag"
-  pub first-named : (kind today : ℕ) (c before after : List ℕ) (r : Checked) → Bytes c → Checks kind today c before after r → (r .verdict .number ≡ 0 → ⊥)
+  pub first-named : (kind today : ℕ) (c before after : List ℕ) (r : Checked) → Checks kind today c before after r → (r .verdict .number ≡ 0 → ⊥)
       → (f : Fault) × (r .verdict .number ≡ numberOf f) × Named kind today c (found f (r .verdict .place) (r .verdict .tag))
   -- and nothing else can be named: where a rule is the first that is broken, the verdict is its number, its place and its tag
   pub only-first : (kind today : ℕ) (c before after : List ℕ) (r : Checked) → Bytes c → Checks kind today c before after r → (f : Fault) (place : ℕ) (tag : Tag)
