@@ -1,5 +1,5 @@
--- The fault that is read is the first broken rule: the elements before its place keep their rules, and the one there is at fault in 01's order.
--- Assumes nothing.
+-- The fault that is read is the first broken rule: the elements before its place keep their rules, and the one there is at fault in 01's order and named by
+-- its tag. Assumes nothing.
 use Prim.Native.Nat.{ℕ, _+_}
 use mathlib.Core.Logic.{inl, inr, ⊎-elim}
 use mathlib.Core.Path.{_≡_, refl, sym, ap, _∙_}

@@ -1,4 +1,4 @@
--- The first broken rule is the only one that can be named: bytes of which it is the first are read as that fault at that place. Assumes nothing.
+-- The first broken rule is the only one that can be named: bytes of which it is the first are read as that fault, at that place and with that tag. Assumes nothing.
 use Prim.Native.Nat.{ℕ, _+_, _≤_, _<_}
 use mathlib.Core.Logic.{_⊎_, inl, inr, _↔_}
 use mathlib.Core.Path.{_≡_, refl, sym, ap, subst, _∙_}

@@ -1,5 +1,5 @@
 -- Demand 2, first half: under a date a container of a kind conforms exactly when some allowed values are written as its bytes, and these are unique;
--- otherwise the first broken rule and its place are named. Assumes nothing.
+-- otherwise the first broken rule, its place and its tag are named. Assumes nothing.
 use Prim.Native.Nat.{ℕ, _+_, _<_, _≤_}
 use mathlib.Core.Logic.{inl, inr, _↔_}
 use mathlib.Core.Path.{_≡_, refl, sym, ap, _∙_}

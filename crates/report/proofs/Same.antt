@@ -1,7 +1,7 @@
--- Demand 3, first half: what a report prints hangs on the kind, the date, the tags, the lengths and the open values alone, or on the number and the
--- place of the first broken rule. So no other value of a container can be told from its report. Assumes nothing.
+-- Demand 3, first half: what a report prints hangs on the kind, the date, the tags, the lengths and the open values alone, or on the number, the
+-- place and the tag of the first broken rule. So no other value of a container can be told from its report. Assumes nothing.
 --     same-report, same-rooms      two conforming containers: equal tags, lengths and open values
---     same-verdict                 two that break a rule: equal number, place and length
+--     same-verdict                 two that break a rule: equal number, place, tag and length
 use Prim.Native.Nat.{ℕ, _+_}
 use mathlib.Core.Path.{_≡_, refl, sym, ap, _∙_}
 use mathlib.Core.Option.{Option, none, some}
@@ -93,7 +93,7 @@ broken-fault : (p : Parsed (List ℕ)) (f : Finding) → outcomeOf p ≡ Broken 
 broken-fault (values vs) f e = let z : _≡_ {A = ℕ} 0 1 = cc in absurd (omega arith)
 broken-fault (fault g) f e = cc
 
--- in 01's number and place
+-- in 01's number and place, and the tag
 pub same-verdict : (kind today : ℕ) (c d : List ℕ) → verdict kind today c ≡ verdict kind today d → (verdict kind today c .number ≡ 0 → ⊥) → length c ≡ length d
     → (room : ℕ) → reportOutput kind today c room ≡ reportOutput kind today d room
 unfolding outcome

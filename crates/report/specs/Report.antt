@@ -1,5 +1,5 @@
 -- 01: "Report sections: CARD (kind, bytes in the container, today, verdict number and place), ELEMENTS (tag in hex, length), OPEN (named values), each
--- after its count of lines. A broken rule gives a report with ELEMENTS 0 and OPEN 0."
+-- after its count of lines. A broken rule gives a report with ELEMENTS 0 and OPEN 0." Since 2026-02 the verdict has its tag too.
 use Prim.Native.Nat.{ℕ}
 use mathlib.Core.List.{List, _++_}
 use Rattle.texts.specs.Text.{ascii}

@@ -27,6 +27,6 @@ pub gives-over : {o : Output} (t d : List ℕ) {e ys : List ℕ} {n : ℕ} {r : 
     → ys ≡ zeros (length (midOf n (length e - n) e)) → r ≡ record { number = 0; place = 0; tag = NoTag; length = n } → Leaves o d (putMid n (length e - n) e ys) r
 gives-over t d q s h w z a = record { answer = a ∙ rw (s, q); room = laid-filled t d w s h z ∙ rw q }
 
--- two answers to the same output, in rooms of one length, are the same: number, place, length and each byte
+-- two answers to the same output, in rooms of one length, are the same: number, place, tag, length and each byte
 pub settled : (o : Output) (d₁ d₂ : List ℕ) {e₁ e₂ : List ℕ} {r₁ r₂ : Done} → length d₁ ≡ length d₂ → Leaves o d₁ e₁ r₁ → Leaves o d₂ e₂ r₂ → (r₁ ≡ r₂) × (e₁ ≡ e₂)
 settled o d₁ d₂ h l m = (l .answer ∙ sym (m .answer), l .room ∙ rw h (sym (m .room)))
