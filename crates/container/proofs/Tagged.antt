@@ -13,29 +13,19 @@ use Rattle.laws.proofs.Bases.{below-drop}
 use Rattle.lengths.specs.Length.{lengthBytes}
 use Rattle.kinds.specs.Tables.{Table, table}
 use Rattle.verdicts.specs.Verdicts.{outright}
+use Rattle.verdicts.proofs.Apart.{not-both, untagged}
 use Rattle.verdicts.specs.declared.Tag.the-variants.{NoTag, Of}
 use Rattle.verdicts.specs.declared.Fault.{Fault}
 use Rattle.verdicts.specs.declared.Finding.{Finding}
 use Rattle.container.specs.Container.{tagBytes, long, encode}
 use Rattle.container.specs.InOrder.{IsTag, of-table, a-byte, at-end, at-element, First, Named, no-kind, no-date, too-large, outer-tag, outer-length, outer-end, in-element}
-use Rattle.container.proofs.Tags.{Plain, short, double, Tags, tags, has-plain, no-tag}
-
-pub not-both : {t : ℕ} → NoTag ≡ Of t → ⊥
-not-both e = let z : _≡_ {A = ℕ} 0 1 = cc in omega arith
-
--- the tag of a fault of the whole
-bare : {f : Finding} {g : Fault} → f ≡ outright g → f .tag ≡ NoTag
-bare e = ap (λ (x : Finding). x .tag) e
+use Rattle.container.proofs.Tags.{Tags, tags, plain-small, has-plain, no-tag}
 
 -- ---- a tag that stands at the front of some bytes
 
 stands-at : {all : Table} {s : List ℕ} {t : ℕ} {r : List ℕ} → Bytes s → IsTag all s t r → s ≡ tagBytes t ++ r
 stands-at b (of-table h e) = e
 stands-at {t = t} {r} b (a-byte e n) = let k : t < 256 = (rw e at b) .0 in e ∙ simp (lt-ltb t 256 k)
-
-pub plain-small : {all : Table} {t : ℕ} → Plain all t → t < 65536
-plain-small (short h k) = omega arith
-plain-small (double e h) = omega arith
 
 small : (all : Table) → Tags all all → {s : List ℕ} {t : ℕ} {r : List ℕ} → Bytes s → IsTag all s t r → t < 65536
 small all p {t = t} b (of-table h e) = plain-small (has-plain all all t p h)
@@ -104,12 +94,12 @@ bytes-there (x ∷ c) e = omega arith
 module _ (kind today : ℕ) (c : List ℕ) (f : Finding) where
   -- the bytes at the place begin with the tag's bytes, of which there are one or two
   pub at-place : Bytes c → Named kind today c f → (t : ℕ) → f .tag ≡ Of t → (take (long t) (drop (f .place) c) ≡ tagBytes t) × (t < 65536)
-  at-place b (no-kind h e) t g = absurd (not-both (sym (bare e) ∙ g))
-  at-place b (no-date k h e) t g = absurd (not-both (sym (bare e) ∙ g))
-  at-place b (too-large k d l e) t g = absurd (not-both (sym (bare e) ∙ g))
-  at-place b (outer-tag k d l h e) t g = absurd (not-both (sym (bare e) ∙ g))
-  at-place b (outer-length k d l h n e) t g = absurd (not-both (sym (bare e) ∙ g))
-  at-place b (outer-end k d l h n r i m e) t g = absurd (not-both (sym (bare e) ∙ g))
+  at-place b (no-kind h e) t g = absurd (untagged e g)
+  at-place b (no-date k h e) t g = absurd (untagged e g)
+  at-place b (too-large k d l e) t g = absurd (untagged e g)
+  at-place b (outer-tag k d l h e) t g = absurd (untagged e g)
+  at-place b (outer-length k d l h n e) t g = absurd (untagged e g)
+  at-place b (outer-end k d l h n r i m e) t g = absurd (untagged e g)
   at-place b (in-element k d l h n r i m w) t g = tag-here kind today c r n (i .1) w b g
 
   -- no tag exactly where the place is 0, or where there is nothing more
@@ -117,7 +107,7 @@ module _ (kind today : ℕ) (c : List ℕ) (f : Finding) where
   None = (f .tag ≡ NoTag) ↔ ((f .place ≡ 0) ⊎ (f .place ≡ length c))
 
   whole : {g : Fault} → f ≡ outright g → None
-  whole e = (λ y. inl (ap (λ (x : Finding). x .place) e), λ y. bare e)
+  whole e = (λ y. inl (ap (λ (x : Finding). x .place) e), λ y. ap (λ (x : Finding). x .tag) e)
 
   pub none-when : Named kind today c f → (f .tag ≡ NoTag) ↔ ((f .place ≡ 0) ⊎ (f .place ≡ length c))
   none-when (no-kind h e) = whole e

@@ -42,6 +42,10 @@ pub data Plain (all : Table) (u : ℕ) : Type 0 where
   short : u < 256 → (u ≡ 0x5F → ⊥) → Plain all u
   double : u ≡ 0x5F2F → has 0x5F2F all ≡ true → Plain all u
 
+pub plain-small : {all : Table} {t : ℕ} → Plain all t → t < 65536
+plain-small (short h k) = omega arith
+plain-small (double e h) = omega arith
+
 abbrev pub Tags : Table → Table → Type 0
 Tags all [] = Unit {0}
 Tags all (r ∷ rs) = Plain all (r .tag) × Tags all rs

@@ -25,10 +25,10 @@ use Rattle.verdicts.specs.declared.Done.{Done}
 use Rattle.verdicts.proofs.Apart.{never-zero}
 use Rattle.verdicts.specs.declared.Fault.the-variants.{SmallRoom, LongNumber, NoElement, BadFascn}
 use Rattle.container.specs.Reading.{Parsed, values, fault, Part, located}
-use Rattle.sheet.specs.Calls.{Given, short, fits, Says, breaks as rule-broken, conforms}
+use Rattle.sheet.specs.Calls.{Given, short, fits, Says, breaks, conforms}
 use Rattle.sheet.specs.declared.Checked.{Checked}
 use Rattle.writing.specs.Writing.{writeOutput}
-use Rattle.writing.specs.Calls.{Puts, breaks, writes}
+use Rattle.writing.specs.Calls.{Puts, refuses, writes}
 use Rattle.writing.proofs.Calls.{puts}
 use Rattle.views.specs.Views.{partOf, shown, viewOf, viewed}
 use Rattle.report.specs.Calls.{reportOutput}
@@ -71,13 +71,13 @@ given-clean {d = d} (short s m l z) = rw (m, l) (left-nothing d (inl refl) (z �
 given-clean {t} {d} (fits s m l z) = rw (m, l) (left-text t d refl s z, left-text t d refl s z)
 
 check-clean : {kind today : ℕ} {c d e : List ℕ} {r : Checked} → Says kind today c d e r → Clean d e (r .verdict .number) (r .length) × Clean d e (r .room) (r .length)
-check-clean {d = d} (rule-broken f n a z) = rw a (left-nothing d (inr (f .fault, refl)) (z ∙ filled-none (length d)), left-nothing d (inl refl) (z ∙ filled-none (length d)))
+check-clean {d = d} (breaks f n a z) = rw a (left-nothing d (inr (f .fault, refl)) (z ∙ filled-none (length d)), left-nothing d (inl refl) (z ∙ filled-none (length d)))
 check-clean (conforms vs k a g) = rw a (given-clean g)
 
 -- ---- a write
 
 write-clean : {kind today : ℕ} {s d e : List ℕ} {r : Done} → Puts kind today s d e r → Clean d e (r .number) (r .length)
-write-clean {d = d} (breaks f w a z) = rw a (left-nothing d (inr (f .fault, refl)) (z ∙ filled-none (length d)))
+write-clean {d = d} (refuses f w a z) = rw a (left-nothing d (inr (f .fault, refl)) (z ∙ filled-none (length d)))
 write-clean {d = d} (writes vs c i k h a z) = rw a (left-text c d refl h z)
 
 -- ---- encoding: 7, 3, or the 25 bytes

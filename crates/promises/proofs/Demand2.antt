@@ -27,21 +27,21 @@ use Rattle.verdicts.specs.declared.Finding.{Finding}
 use Rattle.verdicts.specs.declared.Verdict.{Verdict}
 use Rattle.verdicts.specs.declared.Done.{Done}
 use Rattle.verdicts.specs.Output.{refusal, doneOf}
-use Rattle.verdicts.proofs.Apart.{never-zero, told-apart}
+use Rattle.verdicts.proofs.Apart.{never-zero, told-apart, not-both}
 use Rattle.kinds.specs.Tables.{table}
 use Rattle.container.specs.Container.{Values, tagBytes, long, Conforms}
 use Rattle.container.specs.Reading.{Parsed, fault, outcomeOf, outcome, verdict}
 use Rattle.container.specs.InOrder.{Named}
 use Rattle.container.proofs.Named.{named-back, named-exact}
 use Rattle.container.proofs.Promise.{exact, exactly-when, unique}
-use Rattle.container.proofs.Tagged.{not-both, at-place, none-when}
+use Rattle.container.proofs.Tagged.{at-place, none-when}
 use Rattle.sheet.specs.Sheet.{sheetOf, IsSheet}
 use Rattle.sheet.specs.Calls.{Given, short, fits, Says, breaks, conforms}
 use Rattle.sheet.specs.declared.Checked.{Checked}
 use Rattle.sheet.proofs.Sheets.{conforming-sheet, conforming-bytes, conforming-some}
 use Rattle.sheet.proofs.Bound.{sheet-bound}
 use Rattle.writing.specs.InOrder.{Refused}
-use Rattle.writing.specs.Calls.{Puts, breaks as unfit, writes}
+use Rattle.writing.specs.Calls.{Puts, refuses, writes}
 use Rattle.writing.proofs.Calls.{leaves}
 use Rattle.writing.proofs.Promise.{accepted, written-bytes, read-write}
 use Rattle.writing.proofs.Named.{refused-exact, row-tag}
@@ -143,11 +143,11 @@ module _ (kind today : ℕ) where
   -- a write that answered 0, and one that did not
   wrote : {s before after : List ℕ} {r : Done} → Puts kind today s before after r → r .number ≡ 0
       → (vs : Values) × (c : List ℕ) × IsSheet (table kind) vs s × Conforms kind today vs c × (length c ≤ length before) × (take (r .length) after ≡ c)
-  wrote (unfit f w a z) n = absurd (never-zero (f .fault) (rw a at n))
+  wrote (refuses f w a z) n = absurd (never-zero (f .fault) (rw a at n))
   wrote {before = before} (writes vs c i k h a z) n = (vs, c, i, k, h, rw (a, z) (filled-front c (length before)))
 
   refused : {s before after : List ℕ} {r : Done} → Puts kind today s before after r → (r .number ≡ 0 → ⊥) → (f : Finding) × (r ≡ doneOf (refusal f)) × Refused kind today s (length before) f
-  refused (unfit f w a z) n = (f, a, w)
+  refused (refuses f w a z) n = (f, a, w)
   refused (writes vs c i k h a z) n = absurd (n (rw a))
 
   accepts : (s before after : List ℕ) (r : Done) → Bytes s → Writes kind today s before after r
@@ -161,7 +161,7 @@ module _ (kind today : ℕ) where
   write-only s before after r b h f w = leaves b (h .puts) .answer ∙ ap doneOf (refused-exact kind today s (length before) b f .1 w)
 
   write-tag : {s before after : List ℕ} {r : Done} → Puts kind today s before after r → (t : ℕ) → r .tag ≡ Of t → t < 65536
-  write-tag {s} {before} (unfit f w a z) t e = row-tag kind today s (length before) f w t (rw a at e)
+  write-tag {s} {before} (refuses f w a z) t e = row-tag kind today s (length before) f w t (rw a at e)
   write-tag (writes vs c i k h a z) t e = absurd (not-both (rw a at e))
 
   there : (c before after : List ℕ) (r : Checked) → Bytes c → Checks kind today c before after r → r .verdict .number ≡ 0 → r .room ≡ 0

@@ -28,7 +28,7 @@ use Rattle.verdicts.specs.declared.Ruling.the-variants.{Kept, Breaks}
 use Rattle.container.specs.Container.{Values, tagBytes, has, encode}
 use Rattle.container.specs.Map.{rowValue, rowValues}
 use Rattle.container.proofs.Rows.{Distinct}
-use Rattle.container.proofs.Tags.{distinct, tags, Plain, Tags, short, double}
+use Rattle.container.proofs.Tags.{distinct, tags, Plain, Tags, plain-small}
 use Rattle.sections.specs.Opened.{keptOr, judged}
 use Rattle.sections.specs.Passes.{judgedBy, planOf}
 use Rattle.sections.specs.declared.Plan.{Plan}
@@ -70,11 +70,7 @@ tag-in all (suc n) [] p e = let z : _≡_ {A = ℕ} 0 1 = cc in absurd (omega ar
 tag-in all (suc n) (x ∷ rows) p e = tag-in all n rows (p .1) e
 
 pub small-tag : {kind i tag : ℕ} {optional : Bool} → Next kind i tag optional → tag < 65536
-small-tag {kind} {i} {tag} k = rw (← k .tag-is) (go (tag-in (table kind) i (table kind) (tags kind) (k .split)))
-  where
-    go : {u : ℕ} → Plain (table kind) u → u < 65536
-    go (short h j) = omega arith
-    go (double h j) = omega arith
+small-tag {kind} {i} {tag} k = rw (← k .tag-is) (plain-small (tag-in (table kind) i (table kind) (tags kind) (k .split)))
 
 -- ---- a value is judged by its row, which its tag finds, since no tag stands twice
 

@@ -92,3 +92,10 @@ one-outcome (Broken f) (Broken g) e =
 -- none is told by a number that no tag of one byte or two has, nor a byte 00
 pub told-apart : (t : ℕ) → t < 65536 → tagNumber (Of t) ≡ tagNumber NoTag → ⊥
 told-apart t h e = omega arith
+
+pub not-both : {t : ℕ} → NoTag ≡ Of t → ⊥
+not-both e = let z : _≡_ {A = ℕ} 0 1 = cc in omega arith
+
+-- a fault of the whole has no tag
+pub untagged : {f : Finding} {g : Fault} {t : ℕ} → f ≡ outright g → f .tag ≡ Of t → ⊥
+untagged e h = not-both (sym (ap (λ (x : Finding). x .tag) e) ∙ h)

@@ -17,7 +17,8 @@ use Rattle.kinds.specs.Tables.{Entry, Table, table, permitted, IsKind, isKind}
 use Rattle.rules.specs.Rules.{ruleOf}
 use Rattle.rules.proofs.Exact.{broken-exact}
 use Rattle.verdicts.specs.Verdicts.{found}
-use Rattle.verdicts.specs.Output.{refusal, text}
+use Rattle.verdicts.proofs.Apart.{untagged}
+use Rattle.verdicts.specs.Output.{refusal}
 use Rattle.verdicts.specs.declared.Fault.{Fault}
 use Rattle.verdicts.specs.declared.Tag.the-variants.{Of}
 use Rattle.verdicts.specs.declared.Finding.{Finding}
@@ -28,15 +29,14 @@ use Rattle.verdicts.specs.declared.Outcome.the-variants.{Fine, Broken}
 use Rattle.container.specs.Container.{Values, container, Allowed, largest}
 use Rattle.container.proofs.One.{permitted-exact, good-fits, fits-good}
 use Rattle.container.proofs.Promise.{kind-exact}
-use Rattle.container.proofs.Tags.{tags, has-plain}
+use Rattle.container.proofs.Tags.{tags, plain-small, has-plain}
 use Rattle.container.proofs.Named.{has-mid}
-use Rattle.container.proofs.Tagged.{not-both, plain-small}
 use Rattle.sheet.specs.Sheet.{sheetOf, Sheeted, IsSheet}
 use Rattle.sections.specs.Opened.{opened, keptOr, judged}
 use Rattle.writing.specs.Writing.{sizedOut, judgedOut, openedOut, writeOutput}
 use Rattle.writing.specs.InOrder.{Unfit, no-value, not-permitted, bad-value, FirstRow, Refused, no-kind, no-date, torn, in-row, too-large, small-room}
 use Rattle.writing.proofs.Sheets.{opened-exact, AllBytes, sheet-values}
-use Rattle.writing.proofs.Promise.{judged-exact}
+use Rattle.writing.proofs.Promise.{no-fine, judged-exact, no-text}
 
 -- ---- the rows
 
@@ -91,9 +91,6 @@ module _ (today : ℕ) (f : Finding) where
   unfolding sheetOf
   past-some at v ws = omega (arith, length-append v (sheetOf ws))
 
-  not-fine : Fine ≡ Broken f → ⊥
-  not-fine e = let z : _≡_ {A = ℕ} 0 1 = cc in omega arith
-
   finding-is : {g : Finding} → Broken g ≡ Broken f → f ≡ g
   finding-is e = cc
 
@@ -103,7 +100,7 @@ module _ (today : ℕ) (f : Finding) where
   ruled (Breaks g) at tag next e on stop = stop g refl (finding-is e)
 
   first-row : (rows : Table) (vs : Values) (at : ℕ) → AllBytes vs → Sheeted rows vs → judged today rows vs at ≡ Broken f → FirstRow today rows at vs f
-  first-row [] vs at b h e = absurd (not-fine e)
+  first-row [] vs at b h e = absurd (no-fine (sym e))
   first-row (r ∷ rs) [] at b h e = absurd h
   first-row (r ∷ rs) (none ∷ vs) at b h e =
       elim (which (r .optional)) [
@@ -150,9 +147,6 @@ module _ (kind today : ℕ) (s : List ℕ) (room : ℕ) (b : Bytes s) (f : Findi
   refusal-is : {g : Finding} → refusal g ≡ refusal f → f ≡ g
   refusal-is e = cc
 
-  no-refusal : {t : List ℕ} → text t ≡ refusal f → ⊥
-  no-refusal e = let z : _≡_ {A = ℕ} 0 1 = cc in omega arith
-
   module _ (k : IsKind kind) (d : IsDate today) where
     -- values that are allowed: 4, 3
     sized : (vs : Values) → IsSheet (table kind) vs s → Allowed today (table kind) vs → sizedOut (container kind vs) room ≡ refusal f → Refused kind today s room f
@@ -161,7 +155,7 @@ module _ (kind today : ℕ) (s : List ℕ) (room : ℕ) (b : Bytes s) (f : Findi
           | inl l ↦
               elim (which (ltb room (length (container kind vs)))) [
                 | inl m ↦ small-room k d vs i a (leb-true _ _ l) (ltb-true _ _ m) (refusal-is (rw (l, m) at e))
-                | inr m ↦ absurd (no-refusal (rw (l, m) at e))
+                | inr m ↦ absurd (no-text (sym (rw (l, m) at e)))
               ]
           | inr l ↦ too-large k d vs i a (leb-false _ _ l) (refusal-is (rw l at e))
         ]
@@ -232,11 +226,11 @@ refused-exact kind today s room b f = (refused-there kind today s room b f, refu
 
 -- the tag that it carries is one of the table's, of one byte or two
 pub row-tag : (kind today : ℕ) (s : List ℕ) (room : ℕ) (f : Finding) → Refused kind today s room f → (t : ℕ) → f .tag ≡ Of t → t < 65536
-row-tag kind today s room f (no-kind h e) t g = absurd (not-both (sym (ap (λ (x : Finding). x .tag) e) ∙ g))
-row-tag kind today s room f (no-date k h e) t g = absurd (not-both (sym (ap (λ (x : Finding). x .tag) e) ∙ g))
-row-tag kind today s room f (torn k d h e) t g = absurd (not-both (sym (ap (λ (x : Finding). x .tag) e) ∙ g))
+row-tag kind today s room f (no-kind h e) t g = absurd (untagged e g)
+row-tag kind today s room f (no-date k h e) t g = absurd (untagged e g)
+row-tag kind today s room f (torn k d h e) t g = absurd (untagged e g)
 row-tag kind today s room f (in-row k d vs i w) t g =
     let z : w .row .tag ≡ t = (let y = sym (w .tag-is) ∙ g in cc) in
     rw z at (plain-small (has-plain (table kind) (table kind) (w .row .tag) (tags kind) (rw (w .rows-are) (has-mid (w .before) (w .row) (w .after)))))
-row-tag kind today s room f (too-large k d vs i a l e) t g = absurd (not-both (sym (ap (λ (x : Finding). x .tag) e) ∙ g))
-row-tag kind today s room f (small-room k d vs i a l m e) t g = absurd (not-both (sym (ap (λ (x : Finding). x .tag) e) ∙ g))
+row-tag kind today s room f (too-large k d vs i a l e) t g = absurd (untagged e g)
+row-tag kind today s room f (small-room k d vs i a l m e) t g = absurd (untagged e g)

@@ -33,7 +33,7 @@ use Rattle.writing.proofs.Sheets.{opened-exact, AllBytes, sheet-values,
 
 -- ---- nothing is broken exactly where the values are allowed
 
-no-fine : {f : Finding} → Broken f ≡ Fine → ⊥
+pub no-fine : {f : Finding} → Broken f ≡ Fine → ⊥
 no-fine e = let z : _≡_ {A = ℕ} 0 1 = cc in omega arith
 
 kept-fine : (x : Ruling) (at tag : ℕ) (later : Outcome) → keptOr x at tag later ≡ Fine → (x ≡ Kept) × (later ≡ Fine)
@@ -71,7 +71,7 @@ judged-exact today rows vs at b h = (fine-allowed today rows vs at b h, allowed-
 
 -- ---- a sheet is accepted, and written as c, exactly where it is the sheet of values that c is the container of, and c goes into the room
 
-no-text : {f : Finding} {c : List ℕ} → refusal f ≡ text c → ⊥
+pub no-text : {f : Finding} {c : List ℕ} → refusal f ≡ text c → ⊥
 no-text e = let z : _≡_ {A = ℕ} 0 1 = cc in omega arith
 
 roomy-is : (t : List ℕ) (room : ℕ) (c : List ℕ) → roomy t room ≡ text c → (t ≡ c) × (length t ≤ room)

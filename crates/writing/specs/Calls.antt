@@ -15,6 +15,6 @@ use Rattle.writing.specs.InOrder.{Refused}
 
 -- of the sheet s, with a room for its container that was `before` and is left as `after`
 pub data Puts (kind today : ℕ) (s before after : List ℕ) (r : Done) : Type 0 where
-  breaks : (f : Finding) → Refused kind today s (length before) f → r ≡ doneOf (refusal f) → after ≡ zeros (length before) → Puts kind today s before after r
+  refuses : (f : Finding) → Refused kind today s (length before) f → r ≡ doneOf (refusal f) → after ≡ zeros (length before) → Puts kind today s before after r
   writes : (vs : Values) (c : List ℕ) → IsSheet (table kind) vs s → Conforms kind today vs c → length c ≤ length before → r ≡ doneOf (text c)
       → after ≡ filled c (length before) → Puts kind today s before after r
