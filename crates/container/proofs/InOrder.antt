@@ -14,7 +14,6 @@ use borrow.Author.Tests.{eqb-true}
 use Rattle.laws.specs.Bytes.{Bytes}
 use Rattle.laws.proofs.Bases.{below-drop}
 use Rattle.laws.proofs.Cases.{which}
-use Rattle.lengths.specs.Length.{lengthBytes}
 use Rattle.kinds.specs.Tables.{Entry, Table}
 use Rattle.verdicts.specs.Verdicts.{found}
 use Rattle.verdicts.specs.declared.Tag.{Tag}
@@ -22,7 +21,7 @@ use Rattle.verdicts.specs.declared.Tag.the-variants.{NoTag, Of}
 use Rattle.verdicts.specs.declared.Finding.{Finding}
 use Rattle.verdicts.specs.declared.Fault.{Fault}
 use Rattle.verdicts.specs.declared.Fault.the-variants.{UnknownTag, TagOrder, MissingRow}
-use Rattle.container.specs.Container.{Values, tagBytes, long, has, encode, Allowed}
+use Rattle.container.specs.Container.{Values, tagBytes, long, has, spelled, Allowed}
 use Rattle.container.specs.Reading.{Parsed, values, fault, Part, prepend, Element, whole, broken, element, tagHere, misplaced, follow, parse}
 use Rattle.container.specs.InOrder.{Owed, AtFault, not-in-table, not-to-come, passed-over, in-row, Wrong, at-end, at-element, First}
 use Rattle.container.proofs.Tags.{Tags, tag-is, tag-read, tag-stands}
@@ -80,7 +79,7 @@ at-once today all rest at s {f} {g} {tag} e w =
     let z : f .place ≡ at = ap (λ (x : Finding). x .place) e in
     let q : f .fault ≡ g = ap (λ (x : Finding). x .fault) e in
     let u : f .tag ≡ tag = ap (λ (x : Finding). x .tag) e in
-    record { rows = []; later = rest; vs = []; split = refl; allowed = tt; last = tt; place-is = z ∙ omega arith; written = refl; wrong = rw (q, u) w }
+    record { rows = []; later = rest; vs = []; ps = []; split = refl; allowed = tt; formed = tt; last = tt; place-is = z ∙ omega arith; written = refl; wrong = rw (q, u) w }
 
 -- an optional row without an element
 skip : (today : ℕ) (all : Table) (r : Entry) (rs : Table) (at : ℕ) (s : List ℕ) (f : Finding) → r .optional ≡ true
@@ -89,7 +88,7 @@ skip today all r rs at s f o k b = go (b .rows) (b .vs) refl refl (b .allowed)
   where
     go : (rows : Table) (vs : Values) → b .rows ≡ rows → b .vs ≡ vs → Allowed today rows vs → First today all (r ∷ rs) at s f
     go [] [] m n a =
-        let z : f .place ≡ at + length (encode [] []) = b .place-is ∙ rw m in
+        let z : f .place ≡ at + length (spelled [] [] []) = b .place-is ∙ rw m in
         let y : f .place ≡ at = omega (arith, z) in
         let e : b .later ≡ rs = sym (b .split ∙ rw m) in
         at-once today all (r ∷ rs) at s (ap (λ (n : ℕ). found (f .fault) n (f .tag)) y) (k (rw (m, e) at (b .wrong)))
@@ -100,8 +99,10 @@ skip today all r rs at s f o k b = go (b .rows) (b .vs) refl refl (b .allowed)
           rows = r ∷ b .rows;
           later = b .later;
           vs = none ∷ b .vs;
+          ps = [] ∷ b .ps;
           split = ap (λ (l : Table). r ∷ l) (b .split);
           allowed = (o, b .allowed);
+          formed = (refl, b .formed);
           last = rw n (rw n at (b .last));
           place-is = b .place-is;
           written = b .written;
@@ -127,26 +128,28 @@ module _ (today : ℕ) (all : Table) where
       let bb : Bytes body = below-drop 256 (long (r .tag)) (x ∷ s) b in
       let g = element-is (r .lengths) (r .rule) today body bb u v e in
       let t : x ∷ s ≡ tagBytes (r .tag) ++ body = rw q at (tag-is all x s (b .0)) in
-      let bv : Bytes v = bytes-front v (drop n body) (bytes-back (lengthBytes (length v)) (v ++ drop n body) (rw (g .2) at bb)) in
+      let p = g .form in
+      let bv : Bytes v = bytes-front v (drop n body) (bytes-back p (v ++ drop n body) (rw (g .bytes) at bb)) in
       let y : List ℕ = drop n body in
       let z : drop (long (r .tag) + n) (x ∷ s) ≡ y = sym (drop-drop n (long (r .tag)) (x ∷ s)) in
-      let rest = encode (w .rows) (w .vs) in
+      let rest = spelled (w .rows) (w .vs) (w .ps) in
       let m = length rest in
       let a : long (r .tag) + n + m ≡ long (r .tag) + (n + m) = omega arith in
-      let q : length (tagBytes (r .tag) ++ (lengthBytes (length v) ++ (v ++ rest))) ≡ long (r .tag) + (n + m) =
-      omega (arith, g .1, length-append (tagBytes (r .tag)) (lengthBytes (length v) ++ (v ++ rest)), length-append (lengthBytes (length v)) (v ++ rest), length-append v rest) in
-      let h : take m y ≡ encode (w .rows) (w .vs) = rw z at (w .written) in
-      let k : take (length v + m) (v ++ y) ≡ v ++ encode (w .rows) (w .vs) = take-append-add v y m ∙ rw h in
-      let l : take (length (lengthBytes (length v)) + (length v + m)) (lengthBytes (length v) ++ (v ++ y)) ≡ lengthBytes (length v) ++ (v ++ encode (w .rows) (w .vs)) =
-      take-append-add (lengthBytes (length v)) (v ++ y) (length v + m) ∙ rw k in
-      let i : length (lengthBytes (length v)) + (length v + m) ≡ n + m = omega (arith, g .1) in
-      let j : take (n + m) body ≡ lengthBytes (length v) ++ (v ++ encode (w .rows) (w .vs)) = ap (take (n + m)) (g .2) ∙ rw (← i) l in
+      let q : length (tagBytes (r .tag) ++ (p ++ (v ++ rest))) ≡ long (r .tag) + (n + m) =
+      omega (arith, g .width, length-append (tagBytes (r .tag)) (p ++ (v ++ rest)), length-append p (v ++ rest), length-append v rest) in
+      let h : take m y ≡ rest = rw z at (w .written) in
+      let k : take (length v + m) (v ++ y) ≡ v ++ rest = take-append-add v y m ∙ rw h in
+      let l : take (length p + (length v + m)) (p ++ (v ++ y)) ≡ p ++ (v ++ rest) = take-append-add p (v ++ y) (length v + m) ∙ rw k in
+      let i : length p + (length v + m) ≡ n + m = omega (arith, g .width) in
+      let j : take (n + m) body ≡ p ++ (v ++ rest) = ap (take (n + m)) (g .bytes) ∙ rw (← i) l in
       record {
         rows = r ∷ w .rows;
         later = w .later;
         vs = some v ∷ w .vs;
+        ps = p ∷ w .ps;
         split = ap (λ (l : Table). r ∷ l) (w .split);
-        allowed = (good-fits today r v bv (g .0), w .allowed);
+        allowed = (good-fits today r v bv (g .good), w .allowed);
+        formed = (g .spelt, w .formed);
         last = w .last;
         place-is = omega (arith, w .place-is, q);
         written = rw q (ap (take (long (r .tag) + (n + m))) t ∙ take-append-add (tagBytes (r .tag)) body (n + m) ∙ rw j);

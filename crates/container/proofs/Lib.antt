@@ -3,6 +3,7 @@ pub mod Rows
 pub mod Tags
 pub mod Exact
 pub mod Promise
+pub mod Forms
 pub mod Lengthy
 pub mod Noting
 pub mod Turn

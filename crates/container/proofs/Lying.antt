@@ -16,8 +16,8 @@ use Rattle.laws.specs.Bytes.{Bytes}
 use Rattle.laws.specs.Room.{zeros}
 use Rattle.laws.proofs.Bases.{below-drop}
 use Rattle.laws.proofs.Cases.{test, which}
-use Rattle.lengths.specs.Length.{lengthBytes, readLength, Spelt}
-use Rattle.lengths.proofs.Writing.{some-bytes}
+use Rattle.lengths.specs.Length.{readLength, Spelt}
+use Rattle.lengths.proofs.Spellings.{spelt-some}
 use Rattle.kinds.specs.Tables.{Entry, Table, table, IsKind}
 use Rattle.verdicts.specs.Verdicts.{found}
 use Rattle.verdicts.specs.declared.Tag.the-variants.{Of}
@@ -105,16 +105,17 @@ module _ (c : List ℕ) where
         let body = drop (long (r .tag)) (x ∷ s) in
         let g = element-is (r .lengths) (r .rule) today body (below-drop 256 (long (r .tag)) (x ∷ s) b) w v is in
         let rest = drop (w + length v) body in
-        let y : drop w (lengthBytes (length v) ++ (v ++ rest)) ≡ v ++ rest = ap (λ (k : ℕ). drop k (lengthBytes (length v) ++ (v ++ rest))) (g .1) ∙ drop-append-seam (lengthBytes (length v)) (v ++ rest) in
+        let p = g .form in
+        let y : drop w (p ++ (v ++ rest)) ≡ v ++ rest = ap (λ (k : ℕ). drop k (p ++ (v ++ rest))) (g .width) ∙ drop-append-seam p (v ++ rest) in
         let d : drop (at + long (r .tag) + w) c ≡ v ++ rest =
-        sym (drop-drop w (at + long (r .tag)) c) ∙ ap (drop w) (sym (ap (drop (long (r .tag))) e ∙ drop-drop (long (r .tag)) at c) ∙ g .2) ∙ y in
+        sym (drop-drop w (at + long (r .tag)) c) ∙ ap (drop w) (sym (ap (drop (long (r .tag))) e ∙ drop-drop (long (r .tag)) at c) ∙ g .bytes) ∙ y in
         let l : length c - (at + long (r .tag) + w) ≡ length v + length rest = sym (length-drop (at + long (r .tag) + w) c) ∙ ap length d ∙ length-append v rest in
         let t = ap length (rw q at (tag-is all x s (b .0))) ∙ length-append (tagBytes (r .tag)) body in
         let m = ap length e ∙ length-drop at c in
-        let n = ap length (g .2) ∙ length-append (lengthBytes (length v)) (v ++ rest) in
+        let n = ap length (g .bytes) ∙ length-append p (v ++ rest) in
         record {
-          behind = omega (arith, g .1, some-bytes (length v));
-          within = omega (arith, l, t, m, n, g .1, length-append v rest);
+          behind = omega (arith, g .width, spelt-some p (length v) (g .spelt));
+          within = omega (arith, l, t, m, n, g .width, length-append v rest);
           bytes = ap (take (length v)) d ∙ take-append-seam v rest;
         }
 

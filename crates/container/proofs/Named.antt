@@ -1,5 +1,5 @@
 -- The first broken rule is the only one that can be named: bytes of which it is the first are read as that fault, at that place and with that tag. Assumes nothing.
-use Prim.Native.Nat.{ℕ, _+_, _≤_, _<_}
+use Prim.Native.Nat.{ℕ, _+_, _≤_}
 use mathlib.Core.Logic.{_⊎_, inl, inr, _↔_}
 use mathlib.Core.Path.{_≡_, refl, sym, ap, subst, _∙_}
 use mathlib.Core.Bool.{true, false, cond, true≢false}
@@ -12,7 +12,6 @@ use borrow.Author.Tests.{lt-leb, le-leb, eq-eqb, ne-eqb, eqb-true, eqb-false}
 use Rattle.laws.specs.Bytes.{Bytes}
 use Rattle.laws.proofs.Bases.{below-drop}
 use Rattle.laws.proofs.Cases.{which, not-so}
-use Rattle.lengths.specs.Length.{lengthBytes}
 use Rattle.dates.specs.Date.{IsDate, isDate}
 use Rattle.dates.proofs.Dates.{date-exact}
 use Rattle.kinds.specs.Tables.{Entry, Table, table, IsKind, isKind}
@@ -22,13 +21,13 @@ use Rattle.verdicts.specs.declared.Tag.the-variants.{NoTag, Of}
 use Rattle.verdicts.specs.declared.Finding.{Finding}
 use Rattle.verdicts.specs.declared.Fault.{Fault}
 use Rattle.verdicts.specs.declared.Fault.the-variants.{UnknownTag, TagOrder, MissingRow}
-use Rattle.container.specs.Container.{Values, tagBytes, long, has, encode, outerTag, Allowed, largest}
+use Rattle.container.specs.Container.{Values, Spellings, tagBytes, long, has, spelled, outerTag, Allowed, Formed, largest}
 use Rattle.container.specs.Reading.{fault, prepend, broken, element, tagHere, parse, outer, located, parsed}
 use Rattle.container.specs.InOrder.{Owed, AtFault, not-in-table, not-to-come, passed-over, in-row, Wrong, at-end, at-element, LastThere, First, Named, no-kind, no-date, too-large, outer-tag, outer-length, outer-end, in-element}
 use Rattle.container.proofs.Rows.{Distinct, gone}
 use Rattle.container.proofs.Tags.{Tags, tags, distinct, begins, no-tag, tag-read}
 use Rattle.container.proofs.One.{fits-good}
-use Rattle.container.proofs.Exact.{Apart, skips, partAt, takes, size, bytes-front, bytes-back}
+use Rattle.container.proofs.Exact.{Apart, skips, partAt, takes, bytes-front, bytes-back}
 use Rattle.container.proofs.Faults.{length-read, none-read, faulty-exact}
 use Rattle.container.proofs.Promise.{kind-exact, named}
 
@@ -105,49 +104,50 @@ module _ (today : ℕ) (all : Table) where
         rw (z, x .0) (faulted rest at b s u d k (rw (x .1, x .0) at w))
 
     -- elements of other rows begin with another tag
-    other : (u : ℕ) (rows later : Table) (o : Option (List ℕ)) (vs : Values) (t : List ℕ) → Tags all rows → has u (rows ++ later) ≡ false → Allowed today rows (o ∷ vs) → LastThere (o ∷ vs)
-        → Apart today all u (encode rows (o ∷ vs) ++ t)
-    other u [] later o vs t p h a l = absurd a
-    other u (r ∷ rs) later none [] t p h a l = absurd l
-    other u (r ∷ rs) later none (o ∷ vs) t p h a l =
+    other : (u : ℕ) (rows later : Table) (o : Option (List ℕ)) (vs : Values) (ps : Spellings) (t : List ℕ) → Tags all rows → has u (rows ++ later) ≡ false
+        → Allowed today rows (o ∷ vs) → Formed (o ∷ vs) ps → LastThere (o ∷ vs) → Apart today all u (spelled rows (o ∷ vs) ps ++ t)
+    other u rows later o vs [] t p h a g l = absurd g
+    other u [] later o vs (f ∷ ps) t p h a g l = absurd a
+    other u (r ∷ rs) later none [] (f ∷ ps) t p h a g l = absurd l
+    other u (r ∷ rs) later none (o ∷ vs) (f ∷ ps) t p h a g l =
         elim (which (eqb u (r .tag))) [
           | inl q ↦ absurd (true≢false (rw q at h))
-          | inr q ↦ other u rs later o vs t (p .1) (rw q at h) (a .1) l
+          | inr q ↦ other u rs later o vs ps t (p .1) (rw q at h) (a .1) (g .1) l
         ]
-    other u (r ∷ rs) later (some v) vs t p h a l =
+    other u (r ∷ rs) later (some v) vs (f ∷ ps) t p h a g l =
         elim (which (eqb u (r .tag))) [
           | inl q ↦ absurd (true≢false (rw q at h))
           | inr q ↦
-              let x = lengthBytes (length v) ++ (v ++ encode rs vs) in
+              let x = f ++ (v ++ spelled rs vs ps) in
               let g = begins all (r .tag) (x ++ t) (p .0) in
               rw (append-assoc (tagBytes (r .tag)) x t, g .bytes, g .tag) (ne-eqb (r .tag) u (λ e. eqb-false _ _ q (sym e)))
         ]
 
-    back : (all-tags : Tags all all) (rows later : Table) (vs : Values) (at : ℕ) (t : List ℕ) {tag : Tag} → Tags all rows → Distinct (rows ++ later) → ((t : ℕ) → has t all ≡ false → has t later ≡ false)
-        → Allowed today rows vs → LastThere vs → Bytes (encode rows vs ++ t) → length (encode rows vs) < 65536 → Wrong today all later t f tag
-        → parse today all (rows ++ later) at (encode rows vs ++ t) ≡ fault (found f (at + length (encode rows vs)) tag)
-    back all-tags [] later [] at t p d k a l b h w =
+    back : (all-tags : Tags all all) (rows later : Table) (vs : Values) (ps : Spellings) (at : ℕ) (t : List ℕ) {tag : Tag} → Tags all rows → Distinct (rows ++ later)
+        → ((t : ℕ) → has t all ≡ false → has t later ≡ false) → Allowed today rows vs → Formed vs ps → LastThere vs → Bytes (spelled rows vs ps ++ t) → Wrong today all later t f tag
+        → parse today all (rows ++ later) at (spelled rows vs ps ++ t) ≡ fault (found f (at + length (spelled rows vs ps)) tag)
+    back all-tags [] later [] ps at t p d k a g l b w =
         let z : at + 0 ≡ at = omega arith in
         rw z (here all-tags later at t b d k w)
-    back all-tags [] later (o ∷ vs) at t p d k a l b h w = absurd a
-    back all-tags (r ∷ rs) later [] at t p d k a l b h w = absurd a
-    back all-tags (r ∷ rs) later (none ∷ []) at t p d k a l b h w = absurd l
-    back all-tags (r ∷ rs) later (none ∷ o ∷ vs) at t p d k a l b h w =
-        skips today all r (rs ++ later) at (encode rs (o ∷ vs) ++ t) (a .0) (other (r .tag) rs later o vs t (p .1) (d .0) (a .1) l)
-        ∙ ap (prepend none) (back all-tags rs later (o ∷ vs) at t (p .1) (d .1) k (a .1) l b h w)
-    back all-tags (r ∷ rs) later (some v ∷ vs) at t p d k a l b h w =
-        let rest = encode rs vs in
-        let head = lengthBytes (length v) in
-        let x = length-append (tagBytes (r .tag)) (head ++ (v ++ rest)) in
-        let y = length-append head (v ++ rest) in
+    back all-tags [] later (o ∷ vs) ps at t p d k a g l b w = absurd a
+    back all-tags (r ∷ rs) later [] ps at t p d k a g l b w = absurd a
+    back all-tags (r ∷ rs) later (o ∷ vs) [] at t p d k a g l b w = absurd g
+    back all-tags (r ∷ rs) later (none ∷ []) (q ∷ ps) at t p d k a g l b w = absurd l
+    back all-tags (r ∷ rs) later (none ∷ o ∷ vs) (q ∷ ps) at t p d k a g l b w =
+        skips today all r (rs ++ later) at (spelled rs (o ∷ vs) ps ++ t) (a .0) (other (r .tag) rs later o vs ps t (p .1) (d .0) (a .1) (g .1) l)
+        ∙ ap (prepend none) (back all-tags rs later (o ∷ vs) ps at t (p .1) (d .1) k (a .1) (g .1) l b w)
+    back all-tags (r ∷ rs) later (some v ∷ vs) (q ∷ ps) at t p d k a g l b w =
+        let rest = spelled rs vs ps in
+        let x = length-append (tagBytes (r .tag)) (q ++ (v ++ rest)) in
+        let y = length-append q (v ++ rest) in
         let m = length-append v rest in
-        let e : (tagBytes (r .tag) ++ (head ++ (v ++ rest))) ++ t ≡ tagBytes (r .tag) ++ (head ++ (v ++ (rest ++ t))) =
-        append-assoc (tagBytes (r .tag)) (head ++ (v ++ rest)) t ∙ rw (append-assoc head (v ++ rest) t, append-assoc v rest t) in
-        let b₁ : Bytes (v ++ (rest ++ t)) = bytes-back head (v ++ (rest ++ t)) (bytes-back (tagBytes (r .tag)) (head ++ (v ++ (rest ++ t))) (rw e at b)) in
-        let z : at + length (tagBytes (r .tag) ++ (head ++ (v ++ rest))) ≡ at + long (r .tag) + size today all v + length rest = omega (arith, x, y, m) in
+        let e : (tagBytes (r .tag) ++ (q ++ (v ++ rest))) ++ t ≡ tagBytes (r .tag) ++ (q ++ (v ++ (rest ++ t))) =
+        append-assoc (tagBytes (r .tag)) (q ++ (v ++ rest)) t ∙ rw (append-assoc q (v ++ rest) t, append-assoc v rest t) in
+        let b₁ : Bytes (v ++ (rest ++ t)) = bytes-back q (v ++ (rest ++ t)) (bytes-back (tagBytes (r .tag)) (q ++ (v ++ (rest ++ t))) (rw e at b)) in
+        let z : at + length (tagBytes (r .tag) ++ (q ++ (v ++ rest))) ≡ at + long (r .tag) + (length q + length v) + length rest = omega (arith, x, y, m) in
         rw (e, z)
-        (takes today all r (rs ++ later) at v (rest ++ t) (p .0) (omega (arith, x, y, m)) (fits-good today r v (bytes-front v (rest ++ t) b₁) (a .0))
-        ∙ ap (prepend (partAt today all (at + long (r .tag)) v)) (back all-tags rs later vs (at + long (r .tag) + size today all v) t (p .1) (d .1) k (a .1) l (bytes-back v (rest ++ t) b₁) (omega (arith, x, y, m)) w))
+        (takes today all r (rs ++ later) at q v (rest ++ t) (p .0) (g .0) (fits-good today r v (bytes-front v (rest ++ t) b₁) (a .0))
+        ∙ ap (prepend (partAt (at + long (r .tag)) q v)) (back all-tags rs later vs ps (at + long (r .tag) + (length q + length v)) t (p .1) (d .1) k (a .1) (g .1) l (bytes-back v (rest ++ t) b₁) w))
 
 -- ---- rows before and after
 
@@ -166,18 +166,17 @@ has-later t (r ∷ rs) later h =
 -- ---- the theorem
 
 module _ (kind today : ℕ) (f : Finding) where
-  in-elements : (at : ℕ) (s : List ℕ) → Bytes s → length s ≤ largest → First today (table kind) (table kind) at s f → parse today (table kind) (table kind) at s ≡ fault f
-  in-elements at s b l h =
-      let e = encode (h .rows) (h .vs) in
+  in-elements : (at : ℕ) (s : List ℕ) → Bytes s → First today (table kind) (table kind) at s f → parse today (table kind) (table kind) at s ≡ fault f
+  in-elements at s b h =
+      let e = spelled (h .rows) (h .vs) (h .ps) in
       let t = drop (length e) s in
       let q : s ≡ e ++ t = sym (take-append-drop (length e) s) ∙ ap (λ (x : List ℕ). x ++ t) (h .written) in
-      let n : length e < 65536 = omega (arith, ap length q, length-append e t) in
       let d : Distinct (h .rows ++ h .later) = rw (h .split) at (distinct kind) in
       let g : Tags (table kind) (h .rows) = tags-front (table kind) (h .rows) (h .later) (subst (Tags (table kind)) (h .split) (tags kind)) in
       ap (λ (x : Table). parse today (table kind) x at s) (h .split)
       ∙ ap (parse today (table kind) (h .rows ++ h .later) at) q
-      ∙ back today (table kind) (f .fault) (tags kind) (h .rows) (h .later) (h .vs) at t g d (λ u z. has-later u (h .rows) (h .later) (sym (ap (has u) (h .split)) ∙ z)) (h .allowed) (h .last)
-      (rw q at b) n (h .wrong)
+      ∙ back today (table kind) (f .fault) (tags kind) (h .rows) (h .later) (h .vs) (h .ps) at t g d (λ u z. has-later u (h .rows) (h .later) (sym (ap (has u) (h .split)) ∙ z)) (h .allowed) (h .formed) (h .last)
+      (rw q at b) (h .wrong)
       ∙ ap (λ (p : ℕ). fault (found (f .fault) p (f .tag))) (sym (h .place-is))
 
   passed : (c : List ℕ) → IsKind kind → IsDate today → length c ≤ largest → outer kind today c ≡ fault f → parsed kind today c ≡ fault f
@@ -199,16 +198,15 @@ module _ (kind today : ℕ) (f : Finding) where
   named-back (t ∷ s) b (outer-tag k d l h e) = passed (t ∷ s) k d l (rw (ne-eqb t (outerTag kind) (λ q. h (ap (λ (x : ℕ). x ∷ []) q)), e))
   named-back [] b (outer-length k d l h r e) = absurd (no-start h)
   named-back (t ∷ s) b (outer-length k d l h r e) = passed (t ∷ s) k d l (rw (eq-eqb t (outerTag kind) (tag-of t s h), none-read s (b .1) .1 r, e))
-  named-back [] b (outer-end k d l h n r c m e) = absurd (no-start h)
-  named-back (t ∷ s) b (outer-end k d l h n r c m e) =
-      passed (t ∷ s) k d l (rw (eq-eqb t (outerTag kind) (tag-of t s h), length-read n r c .0, ne-eqb (length s) (length (lengthBytes n) + n) (λ q. m (omega (arith, q, ap length (c .1), length-append (lengthBytes n) r))), e))
-  named-back [] b (in-element k d l h n r c m w) = absurd (no-start h)
-  named-back (t ∷ s) b (in-element k d l h n r c m w) =
-      let y = length-read n r c in
-      let x = length-append (lengthBytes n) r in
+  named-back [] b (outer-end k d l h p n r c m e) = absurd (no-start h)
+  named-back (t ∷ s) b (outer-end k d l h p n r c m e) =
+      passed (t ∷ s) k d l (rw (eq-eqb t (outerTag kind) (tag-of t s h), length-read p n r c .0, ne-eqb (length s) (length p + n) (λ q. m (omega (arith, q, ap length (c .1), length-append p r))), e))
+  named-back [] b (in-element k d l h p n r c m w) = absurd (no-start h)
+  named-back (t ∷ s) b (in-element k d l h p n r c m w) =
+      let y = length-read p n r c in
       passed (t ∷ s) k d l
-      (rw (eq-eqb t (outerTag kind) (tag-of t s h), y .0, eq-eqb (length s) (length (lengthBytes n) + n) (omega (arith, ap length (c .1), x)), y .1)
-      (in-elements (1 + length (lengthBytes n)) r (bytes-back (lengthBytes n) r (rw (c .1) at (b .1))) (omega (arith, ap length (c .1), x, l)) w))
+      (rw (eq-eqb t (outerTag kind) (tag-of t s h), y .0, eq-eqb (length s) (length p + n) (omega (arith, ap length (c .1), length-append p r)), y .1)
+      (in-elements (1 + length p) r (bytes-back p r (rw (c .1) at (b .1))) w))
 
 -- a fault is read exactly where it is the first that is broken
 pub named-exact : (kind today : ℕ) (c : List ℕ) → Bytes c → (f : Finding) → (parsed kind today c ≡ fault f) ↔ Named kind today c f

@@ -13,8 +13,8 @@ use lib.Dec.{leb, eqb}
 use borrow.Author.Tests.{lt-ltb, le-ltb, le-leb, leb-true, eq-eqb, eqb-true}
 use Rattle.laws.specs.Bytes.{Bytes}
 use Rattle.laws.proofs.Cases.{which, and-true, and-is, either, or-left, or-right}
-use Rattle.lengths.specs.Length.{lengthBytes, readLength, Spelt}
-use Rattle.lengths.proofs.Spellings.{exact, reads-back}
+use Rattle.lengths.specs.Length.{Spells, readLength, Spelt}
+use Rattle.lengths.proofs.Spellings.{exact, reads}
 use Rattle.kinds.specs.Tables.{Entry, Lengths, Permitted, permitted}
 use Rattle.kinds.specs.declared.ValueRule.{ValueRule}
 use Rattle.rules.specs.Rules.{ruleOf}
@@ -60,13 +60,20 @@ module _ (l : Lengths) (rule : ValueRule) (today : ℕ) where
         | inr p ↦ absurd (no-whole (rw p at e))
       ]
 
+  -- what is read of an element: a value that its row takes, behind bytes that spell its length
+  pub record Reads (s : List ℕ) (w : ℕ) (v : List ℕ) : Type 0 where
+    pub form : List ℕ
+    pub good : Good v
+    pub spelt : Spells form (length v)
+    pub width : w ≡ length form
+    pub bytes : s ≡ form ++ (v ++ drop (w + length v) s)
+
   -- what is read was written
-  pub element-is : (s : List ℕ) → Bytes s → (w : ℕ) (v : List ℕ) → element l rule today s ≡ whole w v
-      → Good v × (w ≡ length (lengthBytes (length v))) × (s ≡ lengthBytes (length v) ++ (v ++ drop (w + length v) s))
+  pub element-is : (s : List ℕ) → Bytes s → (w : ℕ) (v : List ℕ) → element l rule today s ≡ whole w v → Reads s w v
   unfolding element
   element-is s b w v e = go (readLength s) refl
     where
-      go : (o : Option Spelt) → readLength s ≡ o → Good v × (w ≡ length (lengthBytes (length v))) × (s ≡ lengthBytes (length v) ++ (v ++ drop (w + length v) s))
+      go : (o : Option Spelt) → readLength s ≡ o → Reads s w v
       go none f = absurd (no-whole (rw f at e))
       go (some m) f =
           let body = drop (m .width) s in
@@ -78,22 +85,23 @@ module _ (l : Lengths) (rule : ValueRule) (today : ℕ) where
                 let k : m .number ≤ length body = omega arith in
                 let j = sized-is (m .width) w (take (m .number) body) v (rw (le-ltb _ _ k) at e′) in
                 let q : m .number ≡ length v = sym (length-take-le (m .number) body k) ∙ ap length (j .0) in
-                let t : take (m .width) s ≡ lengthBytes (length v) = x .1 .1 ∙ ap lengthBytes q in
-                let r : drop (m .number) body ≡ drop (w + length v) s = drop-drop (m .number) (m .width) s ∙ rw (j .1, q) in (
-                  rw (← j .0) (j .2),
-                  sym (j .1) ∙ sym (length-take-le (m .width) s (x .0)) ∙ ap length t,
-                  sym (take-append-drop (m .width) s) ∙ rw t (ap (λ (y : List ℕ). lengthBytes (length v) ++ y) (sym (take-append-drop (m .number) body) ∙ rw (j .0, r))),
-                )
+                let r : drop (m .number) body ≡ drop (w + length v) s = drop-drop (m .number) (m .width) s ∙ rw (j .1, q) in
+                record {
+                  form = take (m .width) s;
+                  good = rw (← j .0) (j .2);
+                  spelt = rw (← q) (x .1);
+                  width = sym (j .1) ∙ sym (length-take-le (m .width) s (x .0));
+                  bytes = sym (take-append-drop (m .width) s) ∙ ap (λ (y : List ℕ). take (m .width) s ++ y) (sym (take-append-drop (m .number) body) ∙ rw (j .0, r));
+                }
           ]
 
   -- and what is written is read
-  pub element-of : (v r : List ℕ) → length v < 65536 → Good v → element l rule today (lengthBytes (length v) ++ (v ++ r)) ≡ whole (length (lengthBytes (length v))) v
+  pub element-of : (p v r : List ℕ) → Spells p (length v) → Good v → element l rule today (p ++ (v ++ r)) ≡ whole (length p) v
   unfolding element
-  element-of v r h g =
+  element-of p v r h g =
       let k : length v ≤ length (v ++ r) = rw length-append (omega arith) in
-      rw (reads-back (length v) (v ++ r) h)
-      (ap (within l rule today (record { number = length v; width = length (lengthBytes (length v)) })) (drop-append-seam (lengthBytes (length v)) (v ++ r))
-      ∙ rw (le-ltb _ _ k, take-append-seam v r, g .0, g .1))
+      rw (reads p (length v) (v ++ r) h)
+      (ap (within l rule today (record { number = length v; width = length p })) (drop-append-seam p (v ++ r)) ∙ rw (le-ltb _ _ k, take-append-seam v r, g .0, g .1))
 
 -- ---- the tests and the rules of a row
 

@@ -1,21 +1,21 @@
 -- Demand 2, first half: under a date a container of a kind conforms exactly when some allowed values are written as its bytes, and these are unique;
 -- otherwise the first broken rule, its place and its tag are named. Assumes nothing.
-use Prim.Native.Nat.{ℕ, _+_, _<_, _≤_}
+use Prim.Native.Nat.{ℕ, _+_, _≤_}
 use mathlib.Core.Logic.{inl, inr, _↔_}
 use mathlib.Core.Path.{_≡_, refl, sym, ap, _∙_}
 use mathlib.Core.Bool.{true, cond, true≢false}
 use mathlib.Core.Option.{Option, none, some}
 use mathlib.Core.List.{List, [], _∷_, _++_}
 use native.Mathlib.Omega.{arith}
-use lib.ListN.{length, drop, length-append, length-drop, take-append-drop}
+use lib.ListN.{length, take, drop, length-append, length-drop, take-append-drop}
 use lib.Seq.{drop-append-seam}
 use lib.Dec.{leb, eqb}
 use borrow.Author.Tests.{le-leb, leb-true, leb-false, eq-eqb, eqb-true, eqb-false}
 use Rattle.laws.specs.Bytes.{Bytes}
 use Rattle.laws.proofs.Bases.{below-drop}
 use Rattle.laws.proofs.Cases.{which, and-true, and-is}
-use Rattle.lengths.specs.Length.{lengthBytes, readLength, Spelt}
-use Rattle.lengths.proofs.Spellings.{exact as spelling-exact, reads-back}
+use Rattle.lengths.specs.Length.{Spells, readLength, Spelt}
+use Rattle.lengths.proofs.Spellings.{exact as spelling-exact, reads}
 use Rattle.dates.specs.Date.{IsDate, isDate}
 use Rattle.dates.proofs.Dates.{date-exact}
 use Rattle.kinds.specs.Tables.{Table, table, IsKind, isKind}
@@ -23,10 +23,10 @@ use Rattle.verdicts.specs.Verdicts.{outright, verdictOf}
 use Rattle.verdicts.proofs.Apart.{never-zero}
 use Rattle.verdicts.specs.declared.Outcome.{Outcome}
 use Rattle.verdicts.specs.declared.Outcome.the-variants.{Fine, Broken}
-use Rattle.container.specs.Container.{Values, encode, outerTag, container, Allowed, largest, Conforms}
+use Rattle.container.specs.Container.{Values, Forms, spelled, outerTag, containerIn, Allowed, Formed, largest, Conforms}
 use Rattle.container.specs.Reading.{Parsed, values, fault, Part, valuesOf, alone, inner, outer, located, parsed, outcomeOf, outcome, verdict}
 use Rattle.container.proofs.Tags.{distinct, tags}
-use Rattle.container.proofs.Exact.{no-values, sound, complete}
+use Rattle.container.proofs.Exact.{no-values, bytes-back, sound, partsFrom, complete, parts-values}
 use Rattle.container.specs.InOrder.{Named, no-kind, no-date, too-large, outer-tag, outer-length, outer-end, in-element}
 use Rattle.container.proofs.Faults.{read-length, none-read}
 use Rattle.container.proofs.InOrder.{finding-is, first}
@@ -41,27 +41,39 @@ kind-exact kind = (
 
 -- ---- what is read was written
 
-inner-is : (today : ℕ) (rows : Table) (o : Option Spelt) (s : List ℕ) → readLength s ≡ o → Bytes s → (ps : List (Option Part)) → inner today rows o s ≡ values ps
-    → let vs : Values = valuesOf ps in Allowed today rows vs × (s ≡ lengthBytes (length (encode rows vs)) ++ encode rows vs)
-inner-is today rows none s f b ps e = absurd (no-values e)
-inner-is today rows (some n) s f b ps e =
-    let vs : Values = valuesOf ps in
+-- what is read of some bytes behind the outer tag: values and forms that are allowed, and are written so
+record Spelling (today : ℕ) (rows : Table) (vs : Values) (s : List ℕ) : Type 0 where
+  forms : Forms
+  allowed : Allowed today rows vs
+  rows-formed : Formed vs (forms .rows)
+  outer-formed : Spells (forms .outer) (length (spelled rows vs (forms .rows)))
+  written : s ≡ forms .outer ++ spelled rows vs (forms .rows)
+
+inner-is : (today : ℕ) (rows : Table) (o : Option Spelt) (s : List ℕ) → readLength s ≡ o → Bytes s → (parts : List (Option Part)) → inner today rows o s ≡ values parts
+    → Spelling today rows (valuesOf parts) s
+inner-is today rows none s f b parts e = absurd (no-values e)
+inner-is today rows (some n) s f b parts e =
     elim (which (eqb (length s) (n .width + n .number))) [
       | inl q ↦
-          let p = sound today rows rows (1 + n .width) (drop (n .width) s) (below-drop 256 (n .width) s b) ps (rw q at e) in
+          let p = sound today rows rows (1 + n .width) (drop (n .width) s) (below-drop 256 (n .width) s b) parts (rw q at e) in
           let x = spelling-exact s b (n .number) (n .width) .0 f in
-          let m : n .number ≡ length (encode rows vs) = omega (arith, eqb-true (length s) (n .width + n .number) q, length-drop (n .width) s, ap length (p .1)) in
-          (p .0, rw (← m) (sym (take-append-drop (n .width) s) ∙ rw (x .1 .1, p .1)))
+          let m : n .number ≡ length (spelled rows (valuesOf parts) (p .ps)) = omega (arith, eqb-true (length s) (n .width + n .number) q, length-drop (n .width) s, ap length (p .written)) in
+          record {
+            forms = record { outer = take (n .width) s; rows = p .ps };
+            allowed = p .allowed;
+            rows-formed = p .formed;
+            outer-formed = rw (← m) (x .1);
+            written = sym (take-append-drop (n .width) s) ∙ ap (λ (y : List ℕ). take (n .width) s ++ y) (p .written);
+          }
       | inr q ↦ absurd (no-values (rw q at e))
     ]
 
-outer-is : (kind today : ℕ) (c : List ℕ) → Bytes c → (ps : List (Option Part)) → outer kind today c ≡ values ps → Allowed today (table kind) (valuesOf ps) × (c ≡ container kind (valuesOf ps))
-outer-is kind today [] b ps e = absurd (no-values e)
-outer-is kind today (t ∷ s) b ps e =
+outer-is : (kind today : ℕ) (c : List ℕ) → Bytes c → (parts : List (Option Part)) → outer kind today c ≡ values parts
+    → (s : List ℕ) × (c ≡ outerTag kind ∷ s) × Spelling today (table kind) (valuesOf parts) s
+outer-is kind today [] b parts e = absurd (no-values e)
+outer-is kind today (t ∷ s) b parts e =
     elim (which (eqb t (outerTag kind))) [
-      | inl q ↦
-          let p = inner-is today (table kind) (readLength s) s refl (b .1) ps (rw q at e) in
-          (p .0, ap (λ (x : ℕ). x ∷ s) (eqb-true _ _ q) ∙ ap (λ (x : List ℕ). outerTag kind ∷ x) (p .1))
+      | inl q ↦ (s, ap (λ (x : ℕ). x ∷ s) (eqb-true _ _ q), inner-is today (table kind) (readLength s) s refl (b .1) parts (rw q at e))
       | inr q ↦ absurd (no-values (rw q at e))
     ]
 
@@ -86,8 +98,17 @@ in-outer-values kind today c ps e =
 pub located-conforms : (kind today : ℕ) (c : List ℕ) → Bytes c → (ps : List (Option Part)) → located kind today c ≡ values ps → Conforms kind today (valuesOf ps) c
 located-conforms kind today c b ps e =
     let (k, d, l, o) = in-outer-values kind today c ps e in
-    let p = outer-is kind today c b ps o in
-    record { kind-is = k; date-is = d; size-is = l; allowed = p .0; written = p .1 }
+    let (s, z, p) = outer-is kind today c b ps o in
+    record {
+      kind-is = k;
+      date-is = d;
+      size-is = l;
+      allowed = p .allowed;
+      forms = p .forms;
+      rows-formed = p .rows-formed;
+      outer-formed = p .outer-formed;
+      written = z ∙ ap (λ (y : List ℕ). outerTag kind ∷ y) (p .written);
+    }
 
 parsed-conforms : (kind today : ℕ) (c : List ℕ) → Bytes c → (vs : Values) → parsed kind today c ≡ values vs → Conforms kind today vs c
 unfolding parsed
@@ -99,27 +120,25 @@ parsed-conforms kind today c b vs e = go (located kind today c) refl e
 
 -- ---- and what is written is read
 
-pub conforms-parsed : (kind today : ℕ) (c : List ℕ) → Bytes c → (vs : Values) → Conforms kind today vs c → parsed kind today c ≡ values vs
-unfolding parsed located
-conforms-parsed kind today c b vs h =
-    let body = encode (table kind) vs in
-    let head = lengthBytes (length body) in
-    let l = length-append head body in
-    let z = ap length (h .written) in
-    let f : length body < 65536 = omega (arith, l, z, h .size-is) in
-    let bc : Bytes (container kind vs) = rw (h .written) at b in
-    let bb : Bytes body = rw (drop-append-seam head body) at (below-drop 256 (length head) (head ++ body) (bc .1)) in
-    rw (kind-exact kind .1 (h .kind-is), date-exact today .1 (h .date-is), le-leb _ _ (h .size-is), h .written, eq-eqb (outerTag kind) (outerTag kind) refl, reads-back (length body) body f, eq-eqb _ _ l, drop-append-seam head body)
-    (complete today (table kind) (table kind) (1 + length head) vs (tags kind) (distinct kind) (h .allowed) bb f)
+-- where the values of a container stand
+abbrev pub partsOf : ℕ → Values → Forms → List (Option Part)
+partsOf kind vs fs = partsFrom (1 + length (fs .outer)) (table kind) vs (fs .rows)
 
--- with their places
-pub conforms-located : (kind today : ℕ) (c : List ℕ) → Bytes c → (vs : Values) → Conforms kind today vs c → (ps : List (Option Part)) × (located kind today c ≡ values ps) × (valuesOf ps ≡ vs)
+pub conforms-located : (kind today : ℕ) (c : List ℕ) → Bytes c → (vs : Values) (h : Conforms kind today vs c) → located kind today c ≡ values (partsOf kind vs (h .forms))
+unfolding located
+conforms-located kind today c b vs h =
+    let head = h .forms .outer in
+    let body = spelled (table kind) vs (h .forms .rows) in
+    let bc : Bytes (containerIn kind vs (h .forms)) = rw (h .written) at b in
+    rw (kind-exact kind .1 (h .kind-is), date-exact today .1 (h .date-is), le-leb _ _ (h .size-is), h .written, eq-eqb (outerTag kind) (outerTag kind) refl, reads head (length body) body (h .outer-formed), eq-eqb _ _ (length-append head body), drop-append-seam head body)
+    (complete today (table kind) (table kind) (1 + length head) vs (h .forms .rows) (tags kind) (distinct kind) (h .allowed) (h .rows-formed) (bytes-back head body (bc .1)))
+
+pub conforms-values : (kind today : ℕ) (c : List ℕ) (vs : Values) (h : Conforms kind today vs c) → valuesOf (partsOf kind vs (h .forms)) ≡ vs
+conforms-values kind today c vs h = parts-values today (table kind) (1 + length (h .forms .outer)) vs (h .forms .rows) (h .allowed) (h .rows-formed)
+
+pub conforms-parsed : (kind today : ℕ) (c : List ℕ) → Bytes c → (vs : Values) → Conforms kind today vs c → parsed kind today c ≡ values vs
 unfolding parsed
-conforms-located kind today c b vs h = go (located kind today c) refl (conforms-parsed kind today c b vs h)
-  where
-    go : (p : Parsed Part) → located kind today c ≡ p → alone p ≡ values vs → (ps : List (Option Part)) × (located kind today c ≡ values ps) × (valuesOf ps ≡ vs)
-    go (values ps) q z = (ps, q, cc)
-    go (fault f) q z = absurd (no-values z)
+conforms-parsed kind today c b vs h = ap alone (conforms-located kind today c b vs h) ∙ ap values (conforms-values kind today c vs h)
 
 -- ---- the theorems
 
@@ -127,7 +146,7 @@ conforms-located kind today c b vs h = go (located kind today c) refl (conforms-
 pub exact : (kind today : ℕ) (c : List ℕ) → Bytes c → (vs : Values) → (parsed kind today c ≡ values vs) ↔ Conforms kind today vs c
 exact kind today c b vs = (parsed-conforms kind today c b vs, conforms-parsed kind today c b vs)
 
--- no container has two readings
+-- no container has two readings; `one-forms` (Forms) says the same of the forms
 pub unique : (kind today : ℕ) (c : List ℕ) → Bytes c → (vs ws : Values) → Conforms kind today vs c → Conforms kind today ws c → vs ≡ ws
 unique kind today c b vs ws h k =
     let e : values vs ≡ values ws = sym (conforms-parsed kind today c b vs h) ∙ conforms-parsed kind today c b ws k in
@@ -161,10 +180,10 @@ module _ (kind today : ℕ) (f : Finding) (ki : IsKind kind) (di : IsDate today)
       let m = length-drop (n .width) s in
       elim (which (eqb (length s) (n .width + n .number))) [
         | inl q ↦
-            in-element ki di l (ap (λ (x : ℕ). x ∷ []) h) (n .number) (drop (n .width) s) (c .0) (omega (arith, m, eqb-true (length s) (n .width + n .number) q))
+            in-element ki di l (ap (λ (x : ℕ). x ∷ []) h) (take (n .width) s) (n .number) (drop (n .width) s) (c .0) (omega (arith, m, c .2, eqb-true (length s) (n .width + n .number) q))
             (rw (← c .1) (first today (table kind) (tags kind) (table kind) (1 + n .width) (drop (n .width) s) (below-drop 256 (n .width) s b) f (rw q at e)))
         | inr q ↦
-            outer-end ki di l (ap (λ (x : ℕ). x ∷ []) h) (n .number) (drop (n .width) s) (c .0)
+            outer-end ki di l (ap (λ (x : ℕ). x ∷ []) h) (take (n .width) s) (n .number) (drop (n .width) s) (c .0)
             (λ g. eqb-false (length s) (n .width + n .number) q (omega (arith, m, g))) (finding-is (rw q at e))
       ]
 

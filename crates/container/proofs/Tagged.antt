@@ -10,14 +10,13 @@ use lib.Seq.{drop-drop, drop-append-seam, take-append-seam}
 use borrow.Author.Tests.{lt-ltb}
 use Rattle.laws.specs.Bytes.{Bytes}
 use Rattle.laws.proofs.Bases.{below-drop}
-use Rattle.lengths.specs.Length.{lengthBytes}
 use Rattle.kinds.specs.Tables.{Table, table}
 use Rattle.verdicts.specs.Verdicts.{outright}
 use Rattle.verdicts.proofs.Apart.{not-both, untagged}
 use Rattle.verdicts.specs.declared.Tag.the-variants.{NoTag, Of}
 use Rattle.verdicts.specs.declared.Fault.{Fault}
 use Rattle.verdicts.specs.declared.Finding.{Finding}
-use Rattle.container.specs.Container.{tagBytes, long, encode}
+use Rattle.container.specs.Container.{tagBytes, long, spelled}
 use Rattle.container.specs.InOrder.{IsTag, of-table, a-byte, at-end, at-element, First, Named, no-kind, no-date, too-large, outer-tag, outer-length, outer-end, in-element}
 use Rattle.container.proofs.Tags.{Tags, tags, plain-small, has-plain, no-tag}
 
@@ -37,22 +36,19 @@ not-empty all p (x ∷ s) i = omega arith
 
 -- ---- in the bytes of a container, whose elements are the bytes r
 
-module _ (c r : List ℕ) (n : ℕ) (i : drop 1 c ≡ lengthBytes n ++ r) where
-  behind : (k : ℕ) → drop (1 + length (lengthBytes n) + k) c ≡ drop k r
-  behind k =
-      sym (drop-drop k (1 + length (lengthBytes n)) c)
-      ∙ ap (drop k) (sym (drop-drop (length (lengthBytes n)) 1 c) ∙ ap (drop (length (lengthBytes n))) i ∙ drop-append-seam (lengthBytes n) r)
+module _ (c p r : List ℕ) (i : drop 1 c ≡ p ++ r) where
+  behind : (k : ℕ) → drop (1 + length p + k) c ≡ drop k r
+  behind k = sym (drop-drop k (1 + length p) c) ∙ ap (drop k) (sym (drop-drop (length p) 1 c) ∙ ap (drop (length p)) i ∙ drop-append-seam p r)
 
-  whole-length : 0 < length c → length c ≡ 1 + length (lengthBytes n) + length r
-  whole-length h = omega (arith, ap length i, length-drop 1 c, length-append (lengthBytes n) r)
+  whole-length : 0 < length c → length c ≡ 1 + length p + length r
+  whole-length h = omega (arith, ap length i, length-drop 1 c, length-append p r)
 
-module _ (kind today : ℕ) (c r : List ℕ) (n : ℕ) (i : drop 1 c ≡ lengthBytes n ++ r) {f : Finding}
-    (w : First today (table kind) (table kind) (1 + length (lengthBytes n)) r f) where
+module _ (kind today : ℕ) (c p r : List ℕ) (i : drop 1 c ≡ p ++ r) {f : Finding} (w : First today (table kind) (table kind) (1 + length p) r f) where
   abbrev front : ℕ
-  front = length (encode (w .rows) (w .vs))
+  front = length (spelled (w .rows) (w .vs) (w .ps))
 
   here : drop (f .place) c ≡ drop front r
-  here = ap (λ (k : ℕ). drop k c) (w .place-is) ∙ behind c r n i front
+  here = ap (λ (k : ℕ). drop k c) (w .place-is) ∙ behind c p r i front
 
   there : {t : ℕ} → f .tag ≡ Of t → (q : List ℕ) × IsTag (table kind) (drop front r) t q
   there {t} e = elim (w .wrong) [
@@ -72,15 +68,15 @@ module _ (kind today : ℕ) (c r : List ℕ) (n : ℕ) (i : drop 1 c ≡ lengthB
   none-here h =
       let k = length-take front r in
       let j = ap length (w .written) in
-      let m = whole-length c r n i h in
+      let m = whole-length c p r i h in
       elim (w .wrong) [
         | at-end x o g z ↦ (λ y. inr (omega (arith, ap length x, length-drop front r, w .place-is, k, j, m)), λ y. z)
         | at-element u q s v z ↦
             let l = not-empty (table kind) (tags kind) (drop front r) s in (
               λ y. absurd (not-both (sym y ∙ z)),
               λ y. elim y [
-                | inl p ↦ absurd (omega (arith, w .place-is))
-                | inr p ↦ absurd (omega (arith, l, length-drop front r, w .place-is, m))
+                | inl x ↦ absurd (omega (arith, w .place-is))
+                | inr x ↦ absurd (omega (arith, l, length-drop front r, w .place-is, m))
               ],
             )
       ]
@@ -99,8 +95,8 @@ module _ (kind today : ℕ) (c : List ℕ) (f : Finding) where
   at-place b (too-large k d l e) t g = absurd (untagged e g)
   at-place b (outer-tag k d l h e) t g = absurd (untagged e g)
   at-place b (outer-length k d l h n e) t g = absurd (untagged e g)
-  at-place b (outer-end k d l h n r i m e) t g = absurd (untagged e g)
-  at-place b (in-element k d l h n r i m w) t g = tag-here kind today c r n (i .1) w b g
+  at-place b (outer-end k d l h p n r i m e) t g = absurd (untagged e g)
+  at-place b (in-element k d l h p n r i m w) t g = tag-here kind today c p r (i .1) w b g
 
   -- no tag exactly where the place is 0, or where there is nothing more
   abbrev None : Type 0
@@ -115,5 +111,5 @@ module _ (kind today : ℕ) (c : List ℕ) (f : Finding) where
   none-when (too-large k d l e) = whole e
   none-when (outer-tag k d l h e) = whole e
   none-when (outer-length k d l h n e) = whole e
-  none-when (outer-end k d l h n r i m e) = whole e
-  none-when (in-element k d l h n r i m w) = none-here kind today c r n (i .1) w (bytes-there c h)
+  none-when (outer-end k d l h p n r i m e) = whole e
+  none-when (in-element k d l h p n r i m w) = none-here kind today c p r (i .1) w (bytes-there c h)

@@ -10,7 +10,7 @@ use borrow.Author.Tests.{lt-ltb, le-ltb, le-leb, lt-leb}
 use Rattle.laws.specs.Bytes.{Bytes}
 use Rattle.laws.proofs.Bases.{below-drop}
 use Rattle.laws.proofs.Turns.{from-one}
-use Rattle.lengths.proofs.Writing.{some-bytes}
+use Rattle.lengths.proofs.Spellings.{spelt-some}
 use Rattle.kinds.specs.Tables.{table, rowOf, lastRow}
 use Rattle.kinds.specs.declared.ValueRule.{ValueRule}
 use Rattle.kinds.specs.declared.Row.the-variants.{At, Missing}
@@ -107,8 +107,8 @@ module _ (kind today : ℕ) (c : List ℕ) (at done : ℕ) (h : at < length c) w
         moves : Bytes c → (at < start) × (start ≤ end) × (end ≤ length c)
         moves b =
             let g = element-is (lengthsOf least most empty) rule today (drop begin c) (below-drop 256 begin c b) w v is in
-            let k = simp length-append at (ap length (g .2)) in
-            omega (arith, k, g .1, length-drop begin c, some-bytes (length v), length-drop (w + length v) (drop begin c))
+            let k = simp length-append at (ap length (g .bytes)) in
+            omega (arith, k, g .width, length-drop begin c, spelt-some (g .form) (length v) (g .spelt), length-drop (w + length v) (drop begin c))
 
       pub goes-on : {start end : ℕ} → Bytes c → Whole start end ≡ valueAt begin (element (lengthsOf least most empty) rule today (drop begin c)) → Steps kind today c at done (Next start end i)
       goes-on {start} {end} b f =

@@ -1,4 +1,4 @@
--- 01, "Container form": a container's bytes from its values, and which values are allowed.
+-- 01, "Container form": a container's bytes from its values and the forms of its lengths, and which of these are allowed.
 use Prim.Native.Nat.{ℕ, _/_, _%_, _≤_}
 use mathlib.Core.Path.{_≡_}
 use mathlib.Core.Bool.{Bool, true, false, cond}
@@ -6,7 +6,7 @@ use mathlib.Core.Option.{Option, none, some}
 use mathlib.Core.List.{List, [], _∷_, _++_}
 use lib.ListN.{length}
 use lib.Dec.{ltb, eqb}
-use Rattle.lengths.specs.Length.{lengthBytes}
+use Rattle.lengths.specs.Length.{Spells, lengthBytes}
 use Rattle.kinds.specs.Tables.{Entry, Table, table, Permitted, IsKind}
 use Rattle.dates.specs.Date.{IsDate}
 use Rattle.rules.specs.Rules.{Keeps}
@@ -21,19 +21,45 @@ Values = List (Option (List ℕ))
 abbrev pub tagBytes : ℕ → List ℕ
 tagBytes t = cond (ltb t 256) (t ∷ []) (t / 256 ∷ t % 256 ∷ [])
 
+-- 2026-01: the bytes that spell each length: that of a row's value, no bytes where the row has none
+abbrev pub Spellings : Type 0
+Spellings = List (List ℕ)
+
 -- "An element is tag, length, value"; "Elements stand in table order, each at most once."
-abbrev pub encode : Table → Values → List ℕ
-encode [] vs = []
-encode (r ∷ rs) [] = []
-encode (r ∷ rs) (none ∷ vs) = encode rs vs
-encode (r ∷ rs) (some v ∷ vs) = tagBytes (r .tag) ++ (lengthBytes (length v) ++ (v ++ encode rs vs))
+abbrev pub spelled : Table → Values → Spellings → List ℕ
+spelled [] vs ps = []
+spelled (r ∷ rs) [] ps = []
+spelled (r ∷ rs) (o ∷ vs) [] = []
+spelled (r ∷ rs) (none ∷ vs) (p ∷ ps) = spelled rs vs ps
+spelled (r ∷ rs) (some v ∷ vs) (p ∷ ps) = tagBytes (r .tag) ++ (p ++ (v ++ spelled rs vs ps))
 
 -- "A container is an outer tag (7E for kind 3, else 53), a length, and elements; nothing follows."
 abbrev pub outerTag : ℕ → ℕ
 outerTag kind = cond (eqb kind 3) 0x7E 0x53
 
+-- the forms of a container's lengths: the bytes that spell the outer one, and those of its rows
+pub record Forms : Type 0 where
+  pub outer : List ℕ
+  pub rows : Spellings
+
+-- a container's bytes from its values and forms
+abbrev pub containerIn : ℕ → Values → Forms → List ℕ
+containerIn kind vs fs = outerTag kind ∷ (fs .outer ++ spelled (table kind) vs (fs .rows))
+
+-- "Writing keeps the fewest bytes."
+abbrev pub fewest : Values → Spellings
+fewest [] = []
+fewest (none ∷ vs) = [] ∷ fewest vs
+fewest (some v ∷ vs) = lengthBytes (length v) ∷ fewest vs
+
+abbrev pub encode : Table → Values → List ℕ
+encode rs vs = spelled rs vs (fewest vs)
+
+abbrev pub fewestForms : ℕ → Values → Forms
+fewestForms kind vs = record { outer = lengthBytes (length (encode (table kind) vs)); rows = fewest vs }
+
 abbrev pub container : ℕ → Values → List ℕ
-container kind vs = outerTag kind ∷ (lengthBytes (length (encode (table kind) vs)) ++ encode (table kind) vs)
+container kind vs = containerIn kind vs (fewestForms kind vs)
 
 -- how many bytes a tag takes
 abbrev pub long : ℕ → ℕ
@@ -59,14 +85,25 @@ Allowed today (r ∷ rs) [] = ⊥
 Allowed today (r ∷ rs) (none ∷ vs) = (r .optional ≡ true) × Allowed today rs vs
 Allowed today (r ∷ rs) (some v ∷ vs) = Fits today r v × Allowed today rs vs
 
+-- each row's spelling is one of the length of its value, or there is none
+abbrev pub Formed : Values → Spellings → Type 0
+Formed [] [] = Unit {0}
+Formed [] (p ∷ ps) = ⊥
+Formed (o ∷ vs) [] = ⊥
+Formed (none ∷ vs) (p ∷ ps) = (p ≡ []) × Formed vs ps
+Formed (some v ∷ vs) (p ∷ ps) = Spells p (length v) × Formed vs ps
+
 -- "A container has at most 32,768 bytes."
 abbrev pub largest : ℕ
 largest = 32768
 
--- under the date today the bytes c are a container of the kind, with these values
+-- under the date today the bytes c are a container of the kind, with these values: "some allowed values, in some allowed length forms, spell its bytes"
 pub record Conforms (kind today : ℕ) (vs : Values) (c : List ℕ) : Type 0 where
   pub kind-is : IsKind kind
   pub date-is : IsDate today
   pub size-is : length c ≤ largest
   pub allowed : Allowed today (table kind) vs
-  pub written : c ≡ container kind vs
+  pub forms : Forms
+  pub rows-formed : Formed vs (forms .rows)
+  pub outer-formed : Spells (forms .outer) (length (spelled (table kind) vs (forms .rows)))
+  pub written : c ≡ containerIn kind vs forms

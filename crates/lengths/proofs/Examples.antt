@@ -1,4 +1,4 @@
--- 01, "Examples", P3 to P8, and what is cut short: by computation. Assumes nothing.
+-- 01, "Examples", P3 to P8, the longer forms of 2026-01 and what is cut short: by computation. Assumes nothing.
 use mathlib.Core.Path.{_≡_, refl}
 use mathlib.Core.List.{[], _∷_}
 use mathlib.Core.Option.{none, some}
@@ -19,8 +19,8 @@ pub p5 : readLength (0x81 ∷ 0x80 ∷ []) ≡ some (record { number = 128; widt
 unfolding readLength
 p5 = refl
 
--- P6: 82 00 FF refused
-pub p6 : readLength (0x82 ∷ 0x00 ∷ 0xFF ∷ []) ≡ none
+-- P6, 2026-01: 82 00 FF is 255
+pub p6 : readLength (0x82 ∷ 0x00 ∷ 0xFF ∷ []) ≡ some (record { number = 255; width = 3 })
 unfolding readLength
 p6 = refl
 
@@ -48,10 +48,31 @@ pub only-82 : readLength (0x82 ∷ 0x01 ∷ []) ≡ none
 unfolding readLength
 only-82 = refl
 
--- more than two bytes hold
-pub longer : readLength (0x83 ∷ 0x01 ∷ 0x00 ∷ 0x00 ∷ []) ≡ none
+-- 200 in the two longest forms, and 127 in none of them
+pub in-four : readLength (0x83 ∷ 0x00 ∷ 0x00 ∷ 0xC8 ∷ []) ≡ some (record { number = 200; width = 4 })
 unfolding readLength
-longer = refl
+in-four = refl
+
+pub in-five : readLength (0x84 ∷ 0x00 ∷ 0x00 ∷ 0x00 ∷ 0xC8 ∷ []) ≡ some (record { number = 200; width = 5 })
+unfolding readLength
+in-five = refl
+
+pub no-127 : readLength (0x82 ∷ 0x00 ∷ 0x7F ∷ []) ≡ none
+unfolding readLength
+no-127 = refl
+
+pub only-84 : readLength (0x84 ∷ 0x00 ∷ 0x00 ∷ 0xC8 ∷ []) ≡ none
+unfolding readLength
+only-84 = refl
+
+-- 85 begins no length, and the largest is one
+pub no-85 : readLength (0x85 ∷ 0x00 ∷ 0x00 ∷ 0x00 ∷ 0x00 ∷ 0xC8 ∷ []) ≡ none
+unfolding readLength
+no-85 = refl
+
+pub largest : readLength (0x84 ∷ 0xFF ∷ 0xFF ∷ 0xFF ∷ 0xFF ∷ []) ≡ some (record { number = 4294967295; width = 5 })
+unfolding readLength
+largest = refl
 
 -- and as they are written
 pub writes-127 : lengthBytes 127 ≡ 0x7F ∷ []

@@ -1,20 +1,18 @@
 -- What `lengthAt` is, by the tests that the code makes: a law for each way out. And the code's answer, taken back. Assumes nothing.
-use Prim.Native.Nat.{ℕ, _+_, _*_, _<_, _≤_}
-use mathlib.Core.Path.{_≡_, refl, ap, _∙_}
-use mathlib.Core.List.{List, _∷_}
+use Prim.Native.Nat.{ℕ, suc, _+_, _-_, _<_, _≤_}
+use mathlib.Core.Path.{_≡_, refl, ap}
+use mathlib.Core.Bool.{false, _&&_}
+use mathlib.Core.List.{List}
 use mathlib.Core.Option.{Option, none, some}
 use native.Mathlib.Omega.{arith}
-use native.Mathlib.Nat.{add-assoc}
-use native.Mathlib.Decide.{decLt}
-use lib.ListN.{length, getD, drop, drop-of-length-le}
-use borrow.Author.Tests.{lt-ltb, le-ltb, ne-eqb}
+use lib.Dec.{leb}
+use lib.ListN.{length, getD, drop, drop-of-length-le, length-drop}
+use borrow.Author.Tests.{lt-ltb, le-ltb, le-leb, leb-true}
+use Rattle.laws.specs.Layout.{field}
+use Rattle.laws.proofs.Cases.{and-true, not-so}
 use Rattle.laws.proofs.Turns.{from-one}
-use Rattle.lengths.specs.Length.{Spelt, readLength, lengthAt}
+use Rattle.lengths.specs.Length.{Spelt, afterCount, readLength, told, lengthAt}
 use Rattle.lengths.specs.declared.Length.the-variants.{Is, Bad}
-
--- the bytes from an offset, two at a time
-from-two : (s : List ℕ) (at : ℕ) → at + 1 < length s → drop at s ≡ getD s at 0 ∷ getD s (at + 1) 0 ∷ drop (at + 2) s
-from-two s at h = from-one s at (omega arith) ∙ ap (λ (l : List ℕ). getD s at 0 ∷ l) (from-one s (at + 1) h ∙ rw (add-assoc at 1 1))
 
 module _ (s : List ℕ) (at : ℕ) where
   pub cut : length s ≤ at → Bad ≡ lengthAt at (drop at s)
@@ -26,43 +24,34 @@ module _ (s : List ℕ) (at : ℕ) where
     unfolding lengthAt readLength
     one a e l = rw (from-one s at h, ← e) (simp (lt-ltb _ _ l))
 
-    pub other : 128 ≤ getD s at 0 → (getD s at 0 ≡ 0x81 → ⊥) → (getD s at 0 ≡ 0x82 → ⊥) → Bad ≡ lengthAt at (drop at s)
+    pub other : 128 ≤ getD s at 0 → (0x81 ≤ getD s at 0 → getD s at 0 ≤ 0x84 → ⊥) → Bad ≡ lengthAt at (drop at s)
     unfolding lengthAt readLength
-    other l n m = rw (from-one s at h) (simp (le-ltb _ _ l, ne-eqb _ _ n, ne-eqb _ _ m))
+    other l n =
+        let z : (leb 0x81 (getD s at 0) && leb (getD s at 0) 0x84) ≡ false =
+        not-so _ (λ t. let c = and-true (leb 0x81 (getD s at 0)) _ t in n (leb-true _ _ (c .0)) (leb-true _ _ (c .1))) in
+        rw (from-one s at h) (simp (le-ltb _ _ l, z))
 
-    module _ (e : getD s at 0 ≡ 0x81) where
-      pub cut-81 : length s ≤ at + 1 → Bad ≡ lengthAt at (drop at s)
+    -- 81 to 84: as many bytes as they count
+    module _ (l : 0x81 ≤ getD s at 0) (m : getD s at 0 ≤ 0x84) (count : ℕ) (e : count ≡ getD s at 0 - 0x80) where
+      counts : lengthAt at (drop at s) ≡ told at (afterCount count (drop (at + 1) s))
       unfolding lengthAt readLength
-      cut-81 l = rw (from-one s at h, e, drop-of-length-le s l)
+      counts = rw (from-one s at h) (simp (le-ltb (getD s at 0) 128 (omega arith), le-leb _ _ l, le-leb _ _ m, ← e))
 
-      pub long-81 : at + 1 < length s → getD s (at + 1) 0 < 128 → Bad ≡ lengthAt at (drop at s)
-      unfolding lengthAt readLength
-      long-81 k l = rw (from-one s at h, e, from-one s (at + 1) k) (simp (lt-ltb _ _ l))
+      pub short : length s ≤ at + count → Bad ≡ lengthAt at (drop at s)
+      short k = let z : length (drop (at + 1) s) < count = rw length-drop (omega arith) in rw counts (simp (lt-ltb _ _ z))
 
-      pub two : at + 1 < length s → (b : ℕ) → b ≡ getD s (at + 1) 0 → 128 ≤ b → Is b (at + 2) ≡ lengthAt at (drop at s)
-      unfolding lengthAt readLength
-      two k b g l = rw (from-one s at h, e, from-one s (at + 1) k, ← g) (simp (le-ltb _ _ l))
+      module _ (k : at + count < length s) where
+        enough : count ≤ length (drop (at + 1) s)
+        enough = rw length-drop (omega arith)
 
-    module _ (e : getD s at 0 ≡ 0x82) where
-      pub cut-82 : length s ≤ at + 2 → Bad ≡ lengthAt at (drop at s)
-      unfolding lengthAt readLength
-      cut-82 l =
-          elim (decLt (at + 1) (length s)) [
-            | yes k ↦ rw (from-two s at k, e, drop-of-length-le s l)
-            | no k ↦ let l′ : length s ≤ at + 1 = omega arith in rw (from-one s at h, e, drop-of-length-le s l′)
-          ]
+        pub small : field s (at + 1) count < 128 → Bad ≡ lengthAt at (drop at s)
+        small f = rw counts (simp (le-ltb _ _ enough, lt-ltb _ _ f))
 
-      module _ (k : at + 2 < length s) where
-        from-three : drop at s ≡ 0x82 ∷ getD s (at + 1) 0 ∷ getD s (at + 2) 0 ∷ drop (at + 3) s
-        from-three = from-two s at (omega arith) ∙ rw (e, from-one s (at + 2) k, add-assoc at 2 1)
-
-        pub long-82 : getD s (at + 1) 0 * 256 + getD s (at + 2) 0 < 256 → Bad ≡ lengthAt at (drop at s)
-        unfolding lengthAt readLength
-        long-82 l = rw from-three (simp (lt-ltb _ _ l))
-
-        pub three : (a b : ℕ) → a ≡ getD s (at + 1) 0 → b ≡ getD s (at + 2) 0 → 256 ≤ a * 256 + b → Is (a * 256 + b) (at + 3) ≡ lengthAt at (drop at s)
-        unfolding lengthAt readLength
-        three a b f g l = rw (from-three, ← f, ← g) (simp (le-ltb (a * 256 + b) 256 l))
+        pub several : (n : ℕ) → n ≡ field s (at + 1) count → 128 ≤ n → Is n (at + 1 + count) ≡ lengthAt at (drop at s)
+        several n f g =
+            let g′ : 128 ≤ field s (at + 1) count = rw (← f) g in
+            let z : at + 1 + count ≡ at + suc count = omega arith in
+            rw (counts, z) (simp (le-ltb _ _ enough, le-ltb _ _ g′) (ap (λ (x : ℕ). Is x (at + suc count)) f))
 
 -- ---- the code's answer, taken back
 

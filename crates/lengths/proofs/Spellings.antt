@@ -1,93 +1,100 @@
 -- A length is read exactly where bytes stand that spell it, and no two spellings begin the same bytes. Assumes nothing.
-use Prim.Native.Nat.{ℕ, _+_, _*_, _/_, _%_, _<_, _≤_}
+use Prim.Native.Nat.{ℕ, zero, suc, _+_, _-_, _/_, _%_, _^_, _<_, _≤_}
 use mathlib.Core.Path.{_≡_, refl, sym, ap, _∙_}
-use mathlib.Core.Logic.{_↔_}
+use mathlib.Core.Logic.{_↔_, inl, inr}
+use mathlib.Core.Bool.{true, false, cond, _&&_}
 use mathlib.Core.List.{List, [], _∷_, _++_}
 use mathlib.Core.Option.{Option, none, some}
 use native.Mathlib.Omega.{arith}
-use native.Mathlib.Decide.{decLt, ℕ-discrete}
-use lib.ListN.{length, take, drop, take-append-drop}
+use native.Mathlib.Decide.{decLt}
+use lib.ListN.{length, take, drop, take-append-drop, length-append}
 use lib.Seq.{length-take-le, take-append-seam}
-use borrow.Author.Tests.{lt-ltb, le-ltb, eq-eqb, ne-eqb}
+use lib.Dec.{ltb, leb}
+use borrow.Author.Tests.{lt-ltb, le-ltb, le-leb, leb-true}
 use Rattle.laws.specs.Bytes.{Bytes}
-use Rattle.lengths.specs.Length.{Spelt, lengthBytes, Spells, after81, after82, byFirst, readLength}
-use Rattle.lengths.proofs.Writing.{in-one, in-two, in-three, by-size, some-bytes}
+use Rattle.laws.specs.Digits.{value, digits}
+use Rattle.laws.specs.Layout.{number}
+use Rattle.laws.proofs.Bases.{below-take, value-lt, length-digits, below-digits, value-digits, digits-read}
+use Rattle.laws.proofs.Cases.{which, and-true, and-is, no-some}
+use Rattle.lengths.specs.Length.{Spells, one-byte, counted, lengthBytes, Spelt, afterCount, readLength}
+use Rattle.lengths.proofs.Writing.{in-one, in-two, in-three, by-size}
 
--- ---- from what is written to what is read
+bytes : 0 < 256
+bytes = omega arith
 
--- what is written is read back, whatever follows
-pub reads-back : (n : ℕ) (r : List ℕ) → n < 65536 → readLength (lengthBytes n ++ r) ≡ some (record { number = n; width = length (lengthBytes n) })
-unfolding readLength
-reads-back n r h =
-    by-size n (λ (p : List ℕ). byFirst (p ++ r) ≡ some (record { number = n; width = length p }))
-    (λ a. rw (lt-ltb n 128 a))
-    (λ a b. rw (le-ltb n 128 a))
-    (λ b. let e : n / 256 % 256 * 256 + n % 256 ≡ n = omega arith in rw (e, le-ltb n 256 b))
+-- ---- from what is spelt to what is read
 
-pub spells : (n : ℕ) → n < 65536 → Spells (lengthBytes n) n
-spells n h = (h, refl)
+-- 80 and a count of one to four
+counts : (k : ℕ) → 1 ≤ k → k ≤ 4 → (ltb (0x80 + k) 128 ≡ false) × ((leb 0x81 (0x80 + k) && leb (0x80 + k) 0x84) ≡ true) × (0x80 + k - 0x80 ≡ k)
+counts k l m = (le-ltb (0x80 + k) 128 (omega arith), and-is _ _ (le-leb 0x81 (0x80 + k) (omega arith)) (le-leb (0x80 + k) 0x84 (omega arith)), omega arith)
 
 -- bytes that spell a number are read as that number, whatever follows
 pub reads : (p : List ℕ) (n : ℕ) (r : List ℕ) → Spells p n → readLength (p ++ r) ≡ some (record { number = n; width = length p })
-reads p n r k = rw (k .1) (reads-back n r (k .0))
+unfolding readLength
+reads p n r (one-byte h e) = rw (e, lt-ltb n 128 h)
+reads p n r (counted k a b h l e) =
+    let (x, y, z) = counts k a b in
+    let ds = number k n in
+    let w : length ds ≡ k = length-digits 256 bytes k n in
+    let t : take k (ds ++ r) ≡ ds = rw w at (take-append-seam ds r) in
+    let v : value 256 ds ≡ n = value-digits 256 bytes k n l in
+    let m : k ≤ length (ds ++ r) = rw (length-append, w) (omega arith) in
+    rw (e, x, y, z, le-ltb _ _ m, t, v, le-ltb n 128 h, w)
+
+-- they are bytes, one at least
+pub spelt-bytes : (p : List ℕ) (n : ℕ) → Spells p n → Bytes p
+spelt-bytes p n (one-byte h e) = rw e (omega arith, tt)
+spelt-bytes p n (counted k a b h l e) = rw e (omega arith, below-digits 256 bytes k n)
 
 pub spelt-some : (p : List ℕ) (n : ℕ) → Spells p n → 1 ≤ length p
-spelt-some p n k = rw (k .1) (some-bytes n)
+spelt-some p n (one-byte h e) = rw e (omega arith)
+spelt-some p n (counted k a b h l e) = rw e (omega arith)
 
--- ---- from what is read to what is written
+-- ---- from what is read to what is spelt
 
 -- l was read at the front of s, and its bytes stand there
 abbrev Stands : Spelt → List ℕ → Type 0
 Stands l s = (l .width ≤ length s) × Spells (take (l .width) s) (l .number)
 
-never : (l : Spelt) → none ≡ some l → ⊥
-never l e = let z : _≡_ {A = ℕ} 0 1 = cc in omega arith
-
-is-81 : (r : List ℕ) → Bytes r → (l : Spelt) → after81 r ≡ some l → Stands l (0x81 ∷ r)
-is-81 [] b l e = absurd (never l e)
-is-81 (a ∷ r) b l e =
-    elim (decLt a 128) [
-      | yes h ↦ absurd (never l (rw (lt-ltb a 128 h) at e))
+is-counted : (k : ℕ) (r : List ℕ) → 1 ≤ k → k ≤ 4 → Bytes r → (l : Spelt) → afterCount k r ≡ some l → Stands l ((0x80 + k) ∷ r)
+is-counted k r a b y l e =
+    elim (decLt (length r) k) [
+      | yes h ↦ absurd (no-some (rw (lt-ltb _ _ h) at e))
       | no h ↦
-          let k : 128 ≤ a = omega arith in
-          let e′ : some (record { number = a; width = 2 }) ≡ some l = rw (le-ltb a 128 k) at e in
-          let q : record { number = a; width = 2 } ≡ l = cc in
-          rw (← q) (omega arith, (omega arith, sym (in-two a k (b .0))))
-    ]
-
-is-82 : (r : List ℕ) → Bytes r → (l : Spelt) → after82 r ≡ some l → Stands l (0x82 ∷ r)
-is-82 [] b l e = absurd (never l e)
-is-82 (a ∷ []) b l e = absurd (never l e)
-is-82 (a ∷ x ∷ r) b l e =
-    elim (decLt (a * 256 + x) 256) [
-      | yes h ↦ absurd (never l (rw (lt-ltb (a * 256 + x) 256 h) at e))
-      | no h ↦
-          let k : 256 ≤ a * 256 + x = omega arith in
-          let e′ : some (record { number = a * 256 + x; width = 3 }) ≡ some l = rw (le-ltb (a * 256 + x) 256 k) at e in
-          let q : record { number = a * 256 + x; width = 3 } ≡ l = cc in
-          let d : (a * 256 + x) / 256 % 256 ≡ a = omega arith in
-          let m : (a * 256 + x) % 256 ≡ x = omega arith in
-          rw (← q) (omega arith, (omega arith, sym (in-three (a * 256 + x) k ∙ rw (d, m))))
+          let h′ : k ≤ length r = omega arith in
+          let n = value 256 (take k r) in
+          let w : length (take k r) ≡ k = length-take-le k r h′ in
+          elim (decLt n 128) [
+            | yes g ↦ absurd (no-some (rw (le-ltb _ _ h′, lt-ltb n 128 g) at e))
+            | no g ↦
+                let g′ : 128 ≤ n = omega arith in
+                let q : record { number = n; width = suc k } ≡ l = (let e′ : some (record { number = n; width = suc k }) ≡ some l = rw (le-ltb _ _ h′, le-ltb n 128 g′) at e in cc) in
+                let y′ : Bytes (take k r) = below-take 256 k r y in
+                let v : n < 256 ^ k = rw w at (value-lt 256 bytes (take k r) y′) in
+                let d : take k r ≡ number k n = sym (rw w at (digits-read 256 bytes 0 (take k r) y′)) in
+                rw (← q) (omega arith, counted k a b g′ v (ap (λ (x : List ℕ). (0x80 + k) ∷ x) d))
+          ]
     ]
 
 read-is : (s : List ℕ) → Bytes s → (l : Spelt) → readLength s ≡ some l → Stands l s
 unfolding readLength
-read-is [] b l e = absurd (never l e)
+read-is [] b l e = absurd (no-some e)
 read-is (a ∷ r) b l e =
     elim (decLt a 128) [
       | yes h ↦
           let e′ : some (record { number = a; width = 1 }) ≡ some l = rw (lt-ltb a 128 h) at e in
           let q : record { number = a; width = 1 } ≡ l = cc in
-          rw (← q) (omega arith, (omega arith, sym (in-one a h)))
+          rw (← q) (omega arith, one-byte h refl)
       | no h ↦
-          let k : 128 ≤ a = omega arith in
-          elim (ℕ-discrete a 0x81) [
-            | yes p ↦ rw p (is-81 r (b .1) l (rw (le-ltb a 128 k, eq-eqb a 0x81 p) at e))
-            | no p ↦
-                elim (ℕ-discrete a 0x82) [
-                  | yes q ↦ rw q (is-82 r (b .1) l (rw (le-ltb a 128 k, ne-eqb a 0x81 p, eq-eqb a 0x82 q) at e))
-                  | no q ↦ absurd (never l (rw (le-ltb a 128 k, ne-eqb a 0x81 p, ne-eqb a 0x82 q) at e))
-                ]
+          let e′ : cond (leb 0x81 a && leb a 0x84) (afterCount (a - 0x80) r) none ≡ some l = rw (le-ltb a 128 (omega arith)) at e in
+          elim (which (leb 0x81 a && leb a 0x84)) [
+            | inl q ↦
+                let (x, y) = and-true (leb 0x81 a) (leb a 0x84) q in
+                let first : 0x81 ≤ a = leb-true 0x81 a x in
+                let last : a ≤ 0x84 = leb-true a 0x84 y in
+                let z : 0x80 + (a - 0x80) ≡ a = omega arith in
+                rw z at (is-counted (a - 0x80) r (omega arith) (omega arith) (b .1) l (rw q at e′))
+            | inr q ↦ absurd (no-some (rw q at e′))
           ]
     ]
 
@@ -109,12 +116,12 @@ else-none s b h = go (readLength s) refl
     go none f = f
     go (some l) f = let k = read-is s b l f in absurd (h (l .number) (l .width) (k .0) (k .1))
 
--- what is read takes a byte at least, lies within the bytes, and is no more than two bytes hold
-pub inside : (s : List ℕ) → Bytes s → (l : Spelt) → readLength s ≡ some l → (1 ≤ l .width) × (l .width ≤ length s) × (l .number < 65536)
+-- what is read takes a byte at least, and lies within the bytes
+pub inside : (s : List ℕ) → Bytes s → (l : Spelt) → readLength s ≡ some l → (1 ≤ l .width) × (l .width ≤ length s)
 inside s b l e =
     let k = read-is s b l e in
     let m : length (take (l .width) s) ≡ l .width = length-take-le (l .width) s (k .0) in
-    (rw m at (spelt-some (take (l .width) s) (l .number) (k .1)), k .0, k .1 .0)
+    (rw m at (spelt-some (take (l .width) s) (l .number) (k .1)), k .0)
 
 -- ---- no two spellings begin the same bytes
 
@@ -126,3 +133,44 @@ apart p q x y n m j k e =
     let g : one ≡ other = cc in
     let w : length p ≡ length q = ap (λ (l : Spelt). l .width) g in
     (sym (take-append-seam p x) ∙ rw (e, w) (take-append-seam q y), ap (λ (l : Spelt). l .number) g)
+
+-- ---- the fewest bytes
+
+-- what is written spells its number
+pub spells : (n : ℕ) → n < 65536 → Spells (lengthBytes n) n
+unfolding digits
+spells n h =
+    by-size n (λ (p : List ℕ). Spells p n)
+    (λ a. one-byte a refl)
+    (λ a b. let e : n / 1 % 256 ≡ n = omega arith in counted 1 (omega arith) (omega arith) a (omega arith) (rw e))
+    (λ a. let e : n / 1 % 256 ≡ n % 256 = omega arith in counted 2 (omega arith) (omega arith) (omega arith) (omega arith) (rw e))
+
+-- in the fewest bytes: no spelling is shorter
+pub fewest : (p : List ℕ) (n : ℕ) → Spells p n → length (lengthBytes n) ≤ length p
+fewest p n (one-byte h e) = rw (e, in-one n h) (omega arith)
+fewest p n (counted k a b h l e) =
+    let w = length-digits 256 bytes k n in
+    elim (decLt n 256) [
+      | yes g ↦ rw (e, in-two n h g) (omega (arith, w))
+      | no g ↦
+          let g′ : 256 ≤ n = omega arith in
+          rw (e, in-three n g′) (omega (arith, w, two-at-least k n g′ l))
+    ]
+  where
+    two-at-least : (k n : ℕ) → 256 ≤ n → n < 256 ^ k → 2 ≤ k
+    two-at-least zero n g l = absurd (omega arith)
+    two-at-least (suc zero) n g l = absurd (omega arith)
+    two-at-least (suc (suc k)) n g l = omega arith
+
+-- spellings of one number that are equally long are the same
+pub one-form : (p q : List ℕ) (n : ℕ) → Spells p n → Spells q n → length p ≡ length q → p ≡ q
+one-form p q n (one-byte h e) (one-byte g f) l = e ∙ sym f
+one-form p q n (one-byte h e) (counted j c d g m f) l = absurd (omega arith)
+one-form p q n (counted k a b h m e) (one-byte g f) l = absurd (omega arith)
+one-form p q n (counted k a b h m e) (counted j c d g o f) l =
+    let z : k ≡ j = omega (arith, l, ap length e, ap length f, length-digits 256 bytes k n, length-digits 256 bytes j n) in
+    e ∙ rw (z, f)
+
+-- so that which takes as few bytes as possible is what is written
+pub as-few : (p : List ℕ) (n : ℕ) → n < 65536 → Spells p n → length p ≤ length (lengthBytes n) → p ≡ lengthBytes n
+as-few p n h s l = one-form p (lengthBytes n) n s (spells n h) (omega (arith, fewest p n s))

@@ -40,3 +40,11 @@ length-bytes n = by-size n Bytes (λ h. (omega arith, tt)) (λ h k. (omega arith
 -- one byte, two or three
 pub some-bytes : (n : ℕ) → 1 ≤ length (lengthBytes n)
 some-bytes n = by-size n (λ (p : List ℕ). 1 ≤ length p) (λ h. omega arith) (λ h k. omega arith) (λ h. omega arith)
+
+-- a larger number does not take fewer
+pub no-fewer : (m n : ℕ) → m ≤ n → length (lengthBytes m) ≤ length (lengthBytes n)
+no-fewer m n h =
+    by-size n (λ (p : List ℕ). length (lengthBytes m) ≤ length p)
+    (λ a. rw (in-one m (omega arith)) (omega arith))
+    (λ a b. by-size m (λ (p : List ℕ). length p ≤ 2) (λ c. omega arith) (λ c d. omega arith) (λ c. absurd (omega arith)))
+    (λ a. by-size m (λ (p : List ℕ). length p ≤ 3) (λ c. omega arith) (λ c d. omega arith) (λ c. omega arith))

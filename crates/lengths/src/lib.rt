@@ -1,4 +1,5 @@
-// 01, "Container form": the length of an element, read where one is due and written in the fewest bytes.
+// 01, "Container form": the length of an element, read where one is due in any of its forms, and written in the
+// fewest bytes.
 ghost use mathlib.Core.Path.{_≡_};
 ghost use Prim.Native.Nat.{_<_, _≤_};
 ghost use lib.ListN.{length, drop};
@@ -15,7 +16,8 @@ pub enum Length {
     Bad,
 }
 
-// The length at `at`: "0 to 127 in one byte, 128 to 255 as 81 xx, 256 to 65,535 as 82 xx xx", and nothing else is one.
+// The length at `at`: "up to 127 one byte, above that 81 to 84 with any count of bytes that holds the number", and nothing else
+// is one. A number of four bytes is one too, and no sum of it is made here: whoever asks compares it with the bytes that are left.
 pub fn read_length(c: &[u8], at: usize) -> Length
     ensures { λ r. ⌜ r ≡ lengthAt at (drop at (now (c .entry))) ⌝ }
 {
@@ -23,31 +25,24 @@ pub fn read_length(c: &[u8], at: usize) -> Length
         return Length::Bad;
     }
     let first = numbers::index(c[at]);
-    if first < 128 {
+    if first < 0x80 {
         return Length::Is(first, at + 1);
     }
-    let left = c.len() - at;
-    if first == 0x81 {
-        if left < 2 {
-            return Length::Bad;
-        }
-        let low = numbers::index(c[at + 1]);
-        if low < 128 {
-            return Length::Bad;
-        }
-        return Length::Is(low, at + 2);
+    if first == 0x80 {
+        return Length::Bad;
     }
-    if first == 0x82 {
-        if left < 3 {
-            return Length::Bad;
-        }
-        let pair = numbers::index(c[at + 1]) * 256 + numbers::index(c[at + 2]);
-        if pair < 256 {
-            return Length::Bad;
-        }
-        return Length::Is(pair, at + 3);
+    if 0x84 < first {
+        return Length::Bad;
     }
-    Length::Bad
+    let count = first - 0x80;
+    if c.len() - at <= count {
+        return Length::Bad;
+    }
+    let n = numbers::number(c, at + 1, count) as usize;
+    if n < 128 {
+        return Length::Bad;
+    }
+    Length::Is(n, at + 1 + count)
 }
 
 // "A length takes the fewest bytes": those of n go into the room.

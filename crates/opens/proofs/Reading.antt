@@ -7,7 +7,6 @@ use lib.ListN.{length, getD}
 use Rattle.laws.specs.Bytes.{Bytes}
 use Rattle.laws.proofs.Cases.{and-true, either}
 use Rattle.laws.proofs.Layouts.{by-entries}
-use Rattle.lengths.specs.Length.{lengthBytes}
 use Rattle.fascn.specs.Fascn.{IsFascn}
 use Rattle.fascn.proofs.Codec.{complete}
 use Rattle.dates.specs.Date.{textNumber}
@@ -19,7 +18,8 @@ use Rattle.kinds.specs.declared.ValueRule.the-variants.{Fascn, Expiry, Fingers,
 use Rattle.texts.specs.Text.{ascii}
 use Rattle.texts.proofs.Reading.{Reads, and, given, so, behind}
 use Rattle.texts.proofs.Numbers.{line-reads, hex-reads, raw-reads}
-use Rattle.container.specs.Container.{Values, encode, container, Conforms}
+use Rattle.container.specs.Container.{Values, Conforms}
+use Rattle.container.proofs.Forms.{conforming-bytes}
 use Rattle.container.proofs.Exact.{bytes-back}
 use Rattle.opens.specs.Open.{Open, nothing, model, holder, card, policy, issuer, Opening, opensNone, opensModel, opensCard, opensPolicy, opensIssuer, opensHolder, openBy, taggedValue, agencyOf, systemOf, inHeader, openOf, openPart}
 use Rattle.opens.proofs.Valued.{taggedRow, value-bytes}
@@ -63,10 +63,7 @@ issuer-reads v w l m = so (λ r. ap issuer (r .0)) (behind (ascii "OPEN 1\nissue
 
 module _ (k t : ℕ) (vs : Values) (c : List ℕ) (b : Bytes c) (h : Conforms k t vs c) where
   bytes : (tag : ℕ) → Bytes (taggedValue (table k) vs tag)
-  bytes tag =
-      let rows = encode (table k) vs in
-      let bc : Bytes (container k vs) = rw (h .written) at b in
-      value-bytes tag (table k) vs (bytes-back (lengthBytes (length rows)) rows (bc .1))
+  bytes tag = value-bytes tag (table k) vs (conforming-bytes k t vs c h b)
 
   a-fascn : (tag : ℕ) → ruledBy Fascn (taggedRow (table k) tag) ≡ true → (agencyOf (taggedValue (table k) vs tag) < 10 ^ 4) × (systemOf (taggedValue (table k) vs tag) < 10 ^ 4)
   a-fascn tag e = fascn-small _ (value-keeps t tag (table k) vs (h .allowed) Fascn e)

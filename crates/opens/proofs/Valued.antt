@@ -4,16 +4,14 @@ use mathlib.Core.Path.{_≡_, sym, _∙_}
 use mathlib.Core.Bool.{false, cond, true≢false}
 use mathlib.Core.Logic.{inl, inr}
 use mathlib.Core.Option.{none, some}
-use mathlib.Core.List.{[], _∷_, _++_}
+use mathlib.Core.List.{[], _∷_}
 use lib.Dec.{eqb}
-use lib.ListN.{length}
 use Rattle.laws.specs.Bytes.{Bytes}
 use Rattle.laws.proofs.Cases.{test, which}
-use Rattle.lengths.specs.Length.{lengthBytes}
 use Rattle.kinds.specs.Tables.{Entry, Table, may, any}
 use Rattle.kinds.specs.declared.ValueRule.the-variants.{Free}
-use Rattle.container.specs.Container.{Values, tagBytes, encode, Fits, Allowed}
-use Rattle.container.proofs.Exact.{bytes-front, bytes-back}
+use Rattle.container.specs.Container.{Values, Fits, Allowed}
+use Rattle.container.proofs.Forms.{AllBytes}
 use Rattle.opens.specs.Open.{taggedValue}
 
 -- ---- of a row that must be there
@@ -38,13 +36,12 @@ value-fits today tag (r ∷ rs) (some v ∷ vs) o a =
       | inr q ↦ rw q (value-fits today tag rs vs (rw q at o) (a .1))
     ]
 
--- ---- of a container of bytes
+-- ---- of values of bytes
 
-pub value-bytes : (tag : ℕ) (rs : Table) (vs : Values) → Bytes (encode rs vs) → Bytes (taggedValue rs vs tag)
+pub value-bytes : (tag : ℕ) (rs : Table) (vs : Values) → AllBytes vs → Bytes (taggedValue rs vs tag)
 value-bytes tag [] vs b = tt
 value-bytes tag (r ∷ rs) [] b = tt
 value-bytes tag (r ∷ rs) (none ∷ vs) b =
     test (eqb tag (r .tag)) (λ q. Bytes (cond q [] (taggedValue rs vs tag))) (λ q. tt) (λ q. value-bytes tag rs vs b)
 value-bytes tag (r ∷ rs) (some v ∷ vs) b =
-    let c : Bytes (v ++ encode rs vs) = bytes-back (lengthBytes (length v)) (v ++ encode rs vs) (bytes-back (tagBytes (r .tag)) (lengthBytes (length v) ++ (v ++ encode rs vs)) b) in
-    test (eqb tag (r .tag)) (λ q. Bytes (cond q v (taggedValue rs vs tag))) (λ q. bytes-front v (encode rs vs) c) (λ q. value-bytes tag rs vs (bytes-back v (encode rs vs) c))
+    test (eqb tag (r .tag)) (λ q. Bytes (cond q v (taggedValue rs vs tag))) (λ q. b .0) (λ q. value-bytes tag rs vs (b .1))

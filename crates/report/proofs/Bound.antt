@@ -5,14 +5,13 @@ use mathlib.Core.List.{List, [], _∷_, _++_}
 use native.Mathlib.Omega.{arith}
 use lib.ListN.{length, length-append, length-take}
 use Rattle.laws.specs.Bytes.{Bytes}
-use Rattle.lengths.specs.Length.{lengthBytes}
 use Rattle.kinds.specs.Tables.{table}
 use Rattle.verdicts.specs.Verdicts.{outright, verdictOf}
 use Rattle.verdicts.specs.declared.Fault.{Fault}
 use Rattle.verdicts.specs.declared.Finding.{Finding}
 use Rattle.verdicts.specs.declared.Outcome.the-variants.{Fine, Broken}
 use Rattle.verdicts.proofs.Apart.{number-small}
-use Rattle.container.specs.Container.{encode, largest}
+use Rattle.container.specs.Container.{spelled, largest}
 use Rattle.container.specs.Reading.{Parsed, values, fault, parsed}
 use Rattle.container.specs.InOrder.{Named, no-kind, no-date, too-large, outer-tag, outer-length, outer-end, in-element}
 use Rattle.container.proofs.Promise.{exact, named}
@@ -35,11 +34,11 @@ placed kind today c f (no-date k h e) = at-start e
 placed kind today c f (too-large k d l e) = at-start e
 placed kind today c f (outer-tag k d l h e) = at-start e
 placed kind today c f (outer-length k d l h n e) = at-start e
-placed kind today c f (outer-end k d l h n r i m e) = at-start e
-placed kind today [] f (in-element k d l h n r i m w) = let z : _≡_ {A = ℕ} 0 1 = cc in absurd (omega arith)
-placed kind today (t ∷ s) f (in-element k d l h n r i m w) =
-    let front = encode (w .rows) (w .vs) in
-    omega (arith, w .place-is, ap length (w .written), length-take (length front) r, ap length (i .1), length-append (lengthBytes n) r)
+placed kind today c f (outer-end k d l h p n r i m e) = at-start e
+placed kind today [] f (in-element k d l h p n r i m w) = let z : _≡_ {A = ℕ} 0 1 = cc in absurd (omega arith)
+placed kind today (t ∷ s) f (in-element k d l h p n r i m w) =
+    let front = spelled (w .rows) (w .vs) (w .ps) in
+    omega (arith, w .place-is, ap length (w .written), length-take (length front) r, ap length (i .1), length-append p r)
 
 -- ---- the whole
 

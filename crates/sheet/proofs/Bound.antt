@@ -1,6 +1,6 @@
 -- A sheet has at most six bytes more than its container: a room of 32,774 bytes takes every sheet. Assumes nothing.
 use Prim.Native.Nat.{ℕ, _+_, _*_, _≤_}
-use mathlib.Core.Path.{refl, ap}
+use mathlib.Core.Path.{refl}
 use mathlib.Core.Bool.{cond}
 use mathlib.Core.Logic.{inl, inr}
 use mathlib.Core.Option.{none, some}
@@ -16,6 +16,7 @@ use Rattle.lengths.proofs.Writing.{some-bytes}
 use Rattle.kinds.specs.Tables.{Table, table}
 use Rattle.kinds.proofs.Every.{of-every}
 use Rattle.container.specs.Container.{Values, tagBytes, encode, Allowed, Conforms}
+use Rattle.container.proofs.Forms.{never-longer}
 use Rattle.sheet.specs.Sheet.{sheetOf}
 use Rattle.sheet.proofs.Sheets.{sheet-length}
 
@@ -58,4 +59,4 @@ sheet-bound kind today vs c h =
     let body = encode (table kind) vs in
     let b = rows-bound today (table kind) vs (h .allowed) in
     let l = length-append (lengthBytes (length body)) body in
-    omega (arith, b, few kind, ap length (h .written), l, some-bytes (length body))
+    omega (arith, b, few kind, never-longer kind today vs c h, l, some-bytes (length body))

@@ -14,7 +14,7 @@ use Rattle.lengths.specs.Length.{lengthBytes}
 use Rattle.kinds.specs.Tables.{Table, table}
 use Rattle.kinds.proofs.Every.{some-rows}
 use Rattle.container.specs.Container.{Values, tagBytes, encode, Allowed, Conforms}
-use Rattle.container.proofs.Exact.{bytes-front, bytes-back}
+use Rattle.container.proofs.Forms.{never-longer, AllBytes, conforming-bytes}
 use Rattle.container.specs.Map.{rowValue, rowValues}
 use Rattle.container.proofs.Lying.{next-row}
 use Rattle.sheet.specs.Sheet.{count, section, sheetOf, Sheeted, IsSheet}
@@ -86,20 +86,14 @@ module _ (today : ℕ) where
       let m = length-append v rest in
       (omega (arith, k, l, m), sheeted rs vs (a .1) (omega (arith, k, l, m)))
 
-  section-bytes : (v : List ℕ) → Bytes v → Bytes (section (some v))
-  section-bytes v b = (omega arith, (omega arith, b))
+section-bytes : (v : List ℕ) → Bytes v → Bytes (section (some v))
+section-bytes v b = (omega arith, (omega arith, b))
 
-  sheet-bytes : (rs : Table) (vs : Values) → Allowed today rs vs → Bytes (encode rs vs) → Bytes (sheetOf vs)
-  unfolding sheetOf
-  sheet-bytes [] [] a b = tt
-  sheet-bytes [] (o ∷ vs) a b = absurd a
-  sheet-bytes (r ∷ rs) [] a b = absurd a
-  sheet-bytes (r ∷ rs) (none ∷ vs) a b = (omega arith, (omega arith, sheet-bytes rs vs (a .1) b))
-  sheet-bytes (r ∷ rs) (some v ∷ vs) a b =
-      let rest = encode rs vs in
-      let head = lengthBytes (length v) in
-      let value = bytes-back head (v ++ rest) (bytes-back (tagBytes (r .tag)) (head ++ (v ++ rest)) b) in
-      below-append 256 (section (some v)) (sheetOf vs) (section-bytes v (bytes-front v rest value)) (sheet-bytes rs vs (a .1) (bytes-back v rest value))
+sheet-bytes : (vs : Values) → AllBytes vs → Bytes (sheetOf vs)
+unfolding sheetOf
+sheet-bytes [] b = tt
+sheet-bytes (none ∷ vs) b = (omega arith, (omega arith, sheet-bytes vs b))
+sheet-bytes (some v ∷ vs) b = below-append 256 (section (some v)) (sheetOf vs) (section-bytes v (b .0)) (sheet-bytes vs (b .1))
 
 module _ (kind today : ℕ) (vs : Values) (c : List ℕ) (h : Conforms kind today vs c) where
   -- they have a sheet
@@ -107,8 +101,7 @@ module _ (kind today : ℕ) (vs : Values) (c : List ℕ) (h : Conforms kind toda
   conforming-sheeted =
       let body = encode (table kind) vs in
       let l = length-append (lengthBytes (length body)) body in
-      let z = ap length (h .written) in
-      sheeted today (table kind) vs (h .allowed) (omega (arith, l, z, h .size-is))
+      sheeted today (table kind) vs (h .allowed) (omega (arith, l, never-longer kind today vs c h, h .size-is))
 
   pub conforming-sheet : IsSheet (table kind) vs (sheetOf vs)
   conforming-sheet = record { sections = conforming-sheeted; written = refl }
@@ -123,8 +116,5 @@ module _ (kind today : ℕ) (vs : Values) (c : List ℕ) (h : Conforms kind toda
       go (r ∷ rs) (o ∷ vs) a l = some-sheet o vs
 
   -- and it is bytes
-  pub conforming-bytes : Bytes c → Bytes (sheetOf vs)
-  conforming-bytes b =
-      let body = encode (table kind) vs in
-      let bc = rw (h .written) at b in
-      sheet-bytes today (table kind) vs (h .allowed) (bytes-back (lengthBytes (length body)) body (bc .1))
+  pub conforming-sheet-bytes : Bytes c → Bytes (sheetOf vs)
+  conforming-sheet-bytes b = sheet-bytes vs (conforming-bytes kind today vs c h b)

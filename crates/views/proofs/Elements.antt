@@ -22,7 +22,7 @@ use Rattle.container.specs.Reading.{Parsed, values, fault, Part, valuesOf, loca
 use Rattle.container.proofs.Rows.{Distinct}
 use Rattle.container.proofs.Tags.{distinct}
 use Rattle.container.proofs.Lying.{Stands, stands}
-use Rattle.container.proofs.Promise.{conforms-located}
+use Rattle.container.proofs.Promise.{partsOf, conforms-located, conforms-values}
 use Rattle.views.specs.Views.{View, partOf, placeOf, nothing, shown, viewOf, viewed}
 use Rattle.views.proofs.Placing.{placed}
 use Rattle.views.proofs.Ways.{picked, by-parts}
@@ -108,32 +108,34 @@ refused-view kind today c element n = go (located kind today c) refl
 
 module _ (kind today : ℕ) (c : List ℕ) (b : Bytes c) (vs : Values) (h : Conforms kind today vs c) where
   -- what is read of it
-  parts : (ps : List (Option Part)) × (located kind today c ≡ values ps) × (valuesOf ps ≡ vs)
-  parts = conforms-located kind today c b vs h
+  abbrev parts : List (Option Part)
+  parts = partsOf kind vs (h .forms)
+
+  read : located kind today c ≡ values parts
+  read = conforms-located kind today c b vs h
+
+  values-are : valuesOf parts ≡ vs
+  values-are = conforms-values kind today c vs h
 
   module _ (i : ℕ) {t : ℕ} {o : Bool} (row : rowAt kind i ≡ Holds t o) where
-    of-row : viewed kind today c t ≡ shown (getD (parts .0) i none)
-    of-row = by-parts kind today c t b (parts .0) (parts .1) ∙ ap shown (row-part (table kind) (parts .0) i (distinct kind) row)
+    of-row : viewed kind today c t ≡ shown (getD parts i none)
+    of-row = by-parts kind today c t b parts read ∙ ap shown (row-part (table kind) parts i (distinct kind) row)
 
     -- the element of a row: the view shows the value that the sheet has for the row
     pub element-view : (v : List ℕ) → getD vs i none ≡ some v → Shows c v (viewed kind today c t)
     element-view v e =
-        let (ps, l, q) = parts in
-        let (p, g, w) = value-part ps i v (rw q e) in
-        shows c v (viewed kind today c t) p (picked c ps (stands kind today c b ps l) i p g) w (of-row ∙ ap shown g)
+        let (p, g, w) = value-part parts i v (rw values-are e) in
+        shows c v (viewed kind today c t) p (picked c parts (stands kind today c b parts read) i p g) w (of-row ∙ ap shown g)
 
     -- and where it stands
-    pub element-place : (v : List ℕ) → getD vs i none ≡ some v → viewed kind today c t .part .offset ≡ placeOf kind vs i t v
+    pub element-place : (v : List ℕ) → getD vs i none ≡ some v → viewed kind today c t .part .offset ≡ placeOf kind vs (h .forms) i t
     element-place v e =
-        let (ps, l, q) = parts in
-        let (p, g, w) = value-part ps i v (rw q e) in
-        ap (λ (x : View). x .part .offset) (of-row ∙ ap shown g)
-        ∙ placed kind today c b ps l i t o row p g
-        ∙ ap₂ (λ (us : Values) (x : List ℕ). placeOf kind us i t x) q w
+        let (p, g, w) = value-part parts i v (rw values-are e) in
+        ap (λ (x : View). x .part .offset) (of-row ∙ ap shown g) ∙ placed kind today c vs h i t o row p g
 
     pub absent-view : getD vs i none ≡ none → viewed kind today c t ≡ absentView
-    absent-view e = let (ps, l, q) = parts in of-row ∙ ap shown (no-value-part ps i (rw q e))
+    absent-view e = of-row ∙ ap shown (no-value-part parts i (rw values-are e))
 
   -- a tag that is not of the kind
   pub foreign-view : (t : ℕ) → ((i : ℕ) (o : Bool) → rowAt kind i ≡ Holds t o → ⊥) → viewed kind today c t ≡ absentView
-  foreign-view t n = by-parts kind today c t b (parts .0) (parts .1) ∙ ap shown (foreign (table kind) (parts .0) t n)
+  foreign-view t n = by-parts kind today c t b parts read ∙ ap shown (foreign (table kind) parts t n)

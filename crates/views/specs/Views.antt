@@ -6,14 +6,13 @@ use mathlib.Core.Bool.{cond}
 use mathlib.Core.Option.{Option, none, some}
 use mathlib.Core.List.{List, [], _∷_}
 use lib.Dec.{eqb}
-use lib.ListN.{length, take, drop}
+use lib.ListN.{length, take, drop, getD}
 use Rattle.verdicts.specs.Verdicts.{tagNumber, outright, verdictOf}
 use Rattle.verdicts.specs.declared.Fault.the-variants.{NoElement}
 use Rattle.verdicts.specs.declared.Outcome.the-variants.{Fine, Broken}
 use Rattle.verdicts.specs.declared.Verdict.{Verdict}
 use Rattle.kinds.specs.Tables.{Table, table}
-use Rattle.lengths.specs.Length.{lengthBytes}
-use Rattle.container.specs.Container.{Values, long, encode}
+use Rattle.container.specs.Container.{Values, Forms, long, spelled}
 use Rattle.container.specs.Reading.{Parsed, values, fault, Part, located}
 use Rattle.views.specs.declared.Located.{Located}
 
@@ -28,11 +27,11 @@ partOf [] ps t = none
 partOf (r ∷ rs) [] t = none
 partOf (r ∷ rs) (o ∷ ps) t = cond (eqb t (r .tag)) o (partOf rs ps t)
 
--- "its place and length are fixed": of the values of a kind, the value v of row i, which has the tag t, stands behind the outer tag and length, the
--- elements of the rows before it, and its own tag and length
-abbrev pub placeOf : ℕ → Values → ℕ → ℕ → List ℕ → ℕ
-placeOf kind vs i t v =
-    1 + length (lengthBytes (length (encode (table kind) vs))) + length (encode (take i (table kind)) (take i vs)) + long t + length (lengthBytes (length v))
+-- "its place and length are fixed": of a kind's values in some forms, the value of row i, which has the tag t, stands behind the outer tag and length, the
+-- elements of the rows before it, and its own tag and length, each length in its form
+abbrev pub placeOf : ℕ → Values → Forms → ℕ → ℕ → ℕ
+placeOf kind vs fs i t =
+    1 + length (fs .outer) + length (spelled (take i (table kind)) (take i vs) (take i (fs .rows))) + long t + length (getD (fs .rows) i [])
 
 abbrev pub nothing : Part
 nothing = record { offset = 0; bytes = [] }

@@ -18,8 +18,8 @@ module _ {kind today : ℕ} {s before after : List ℕ} {r : Done} (b : Bytes s)
     where
       go : (o : Output) → writeOutput kind today s (length before) ≡ o → Leaves o before after r → Puts kind today s before after r
       go (refusal f) q l = refuses f (refused-exact kind today s (length before) b f .0 q) (l .answer) (l .room ∙ sym (filled-none (length before)))
-      go (text c) q l = let (vs, i, k, h) = accepted kind today s (length before) b c .0 q in writes vs c i k h (l .answer) (l .room)
+      go (text c) q l = let (vs, i, k, w, h) = accepted kind today s (length before) b c .0 q in writes vs c i k w h (l .answer) (l .room)
 
   pub leaves : Puts kind today s before after r → Leaves (writeOutput kind today s (length before)) before after r
   leaves (refuses f w a z) = rw (refused-exact kind today s (length before) b f .1 w) (record { answer = a; room = z ∙ filled-none (length before) })
-  leaves (writes vs c i k h a z) = rw (accepted kind today s (length before) b c .1 (vs, i, k, h)) (record { answer = a; room = z })
+  leaves (writes vs c i k w h a z) = rw (accepted kind today s (length before) b c .1 (vs, i, k, w, h)) (record { answer = a; room = z })

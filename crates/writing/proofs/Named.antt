@@ -29,13 +29,14 @@ use Rattle.verdicts.specs.declared.Outcome.the-variants.{Fine, Broken}
 use Rattle.container.specs.Container.{Values, container, Allowed, largest}
 use Rattle.container.proofs.One.{permitted-exact, good-fits, fits-good}
 use Rattle.container.proofs.Promise.{kind-exact}
+use Rattle.container.proofs.Forms.{AllBytes}
 use Rattle.container.proofs.Tags.{tags, plain-small, has-plain}
 use Rattle.container.proofs.Named.{has-mid}
 use Rattle.sheet.specs.Sheet.{sheetOf, Sheeted, IsSheet}
 use Rattle.sections.specs.Opened.{opened, keptOr, judged}
 use Rattle.writing.specs.Writing.{sizedOut, judgedOut, openedOut, writeOutput}
 use Rattle.writing.specs.InOrder.{Unfit, no-value, not-permitted, bad-value, FirstRow, Refused, no-kind, no-date, torn, in-row, too-large, small-room}
-use Rattle.writing.proofs.Sheets.{opened-exact, AllBytes, sheet-values}
+use Rattle.writing.proofs.Sheets.{opened-exact, sheet-values}
 use Rattle.writing.proofs.Promise.{no-fine, judged-exact, no-text}
 
 -- ---- the rows

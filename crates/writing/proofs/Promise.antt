@@ -1,7 +1,7 @@
 -- Demand 2, second half: a sheet is accepted exactly where it is the sheet of allowed values that fit 32,768 bytes, and what is written is their container;
 -- reading and writing undo each other. Assumes nothing.
 use Prim.Native.Nat.{ℕ, _+_, _≤_}
-use mathlib.Core.Path.{_≡_, refl, sym, ap, _∙_}
+use mathlib.Core.Path.{_≡_, refl, sym, ap, subst, _∙_}
 use mathlib.Core.Logic.{inl, inr, _↔_}
 use mathlib.Core.Bool.{true}
 use mathlib.Core.Option.{Option, none, some}
@@ -25,11 +25,12 @@ use Rattle.verdicts.specs.declared.Outcome.the-variants.{Fine, Broken}
 use Rattle.container.specs.Container.{Values, container, Allowed, largest, Conforms}
 use Rattle.container.proofs.One.{good-fits, fits-good}
 use Rattle.container.proofs.Promise.{kind-exact}
+use Rattle.container.proofs.Forms.{AllBytes, written-conforms, never-longer, fewest-conforms}
 use Rattle.sheet.specs.Sheet.{sheetOf, Sheeted, IsSheet}
-use Rattle.sheet.proofs.Sheets.{conforming-sheet, conforming-bytes}
+use Rattle.sheet.proofs.Sheets.{conforming-sheet, conforming-sheet-bytes}
 use Rattle.sections.specs.Opened.{opened, keptOr, judged}
 use Rattle.writing.specs.Writing.{roomy, sizedOut, judgedOut, openedOut, writeOutput}
-use Rattle.writing.proofs.Sheets.{opened-exact, AllBytes, sheet-values, container-bytes}
+use Rattle.writing.proofs.Sheets.{opened-exact, sheet-values, container-bytes}
 
 -- ---- nothing is broken exactly where the values are allowed
 
@@ -105,7 +106,7 @@ opened-is kind today (some vs) room c e = (vs, refl, e)
 
 module _ (kind today : ℕ) (s : List ℕ) (room : ℕ) (b : Bytes s) (c : List ℕ) where
   abbrev Accepts : Type 0
-  Accepts = (vs : Values) × IsSheet (table kind) vs s × Conforms kind today vs c × (length c ≤ room)
+  Accepts = (vs : Values) × IsSheet (table kind) vs s × Conforms kind today vs c × (c ≡ container kind vs) × (length c ≤ room)
 
   accepts : isKind kind ≡ true → isDate today ≡ true → openedOut kind today (opened (table kind) s) room ≡ text c → Accepts
   accepts k d e =
@@ -117,13 +118,8 @@ module _ (kind today : ℕ) (s : List ℕ) (room : ℕ) (b : Bytes s) (c : List 
       let v : AllBytes vs = sheet-values vs (rw (i .written) at b) in (
         vs,
         i,
-        record {
-          kind-is = kind-exact kind .0 k;
-          date-is = date-exact today .0 d;
-          size-is = rw (← z .0) (z .1);
-          allowed = judged-exact today (table kind) vs 0 v (i .sections) .0 (j .0);
-          written = sym (z .0);
-        },
+        subst (Conforms kind today vs) (z .0) (written-conforms kind today vs (kind-exact kind .0 k) (date-exact today .0 d) (judged-exact today (table kind) vs 0 v (i .sections) .0 (j .0)) (z .1)),
+        sym (z .0),
         rw (← z .0) (z .2),
       )
 
@@ -146,7 +142,7 @@ module _ (kind today : ℕ) (s : List ℕ) (room : ℕ) (b : Bytes s) (c : List 
       let i = a .1 in
       let f = a .2 in
       let v : AllBytes vs = sheet-values vs (rw (i .written) at b) in
-      let z : sizedOut (container kind vs) room ≡ text c = ap (λ (t : List ℕ). sizedOut t room) (sym (f .written)) ∙ sized-fits c room (f .size-is) (a .3) in
+      let z : sizedOut (container kind vs) room ≡ text c = ap (λ (t : List ℕ). sizedOut t room) (sym (a .3)) ∙ sized-fits c room (f .size-is) (a .4) in
       rw (
         kind-exact kind .1 (f .kind-is),
         date-exact today .1 (f .date-is),
@@ -154,16 +150,18 @@ module _ (kind today : ℕ) (s : List ℕ) (room : ℕ) (b : Bytes s) (c : List 
         judged-exact today (table kind) vs 0 v (i .sections) .1 (f .allowed),
       ) z
 
-  pub accepted : (writeOutput kind today s room ≡ text c) ↔ ((vs : Values) × IsSheet (table kind) vs s × Conforms kind today vs c × (length c ≤ room))
+  pub accepted : (writeOutput kind today s room ≡ text c) ↔ ((vs : Values) × IsSheet (table kind) vs s × Conforms kind today vs c × (c ≡ container kind vs) × (length c ≤ room))
   accepted = (accepted-there, accepted-back)
 
 -- what is written is of bytes
 pub written-bytes : (kind today : ℕ) (s : List ℕ) (room : ℕ) → Bytes s → (c : List ℕ) → writeOutput kind today s room ≡ text c → Bytes c
 written-bytes kind today s room b c e =
     let a = accepted kind today s room b c .0 e in
-    rw (a .2 .written) (container-bytes kind (a .0) (sheet-values (a .0) (rw (a .1 .written) at b)))
+    rw (a .3) (container-bytes kind (a .0) (sheet-values (a .0) (rw (a .1 .written) at b)))
 
--- the sheet of a container's values is written as that container
-pub read-write : (kind today : ℕ) (c : List ℕ) → Bytes c → (vs : Values) → Conforms kind today vs c → (room : ℕ) → length c ≤ room → writeOutput kind today (sheetOf vs) room ≡ text c
+-- the sheet of a container's values is written as the container of these values in the fewest bytes
+pub read-write : (kind today : ℕ) (c : List ℕ) → Bytes c → (vs : Values) → Conforms kind today vs c → (room : ℕ) → length c ≤ room
+    → writeOutput kind today (sheetOf vs) room ≡ text (container kind vs)
 read-write kind today c b vs f room h =
-    accepted kind today (sheetOf vs) room (conforming-bytes kind today vs c f b) c .1 (vs, conforming-sheet kind today vs c f, f, h)
+    accepted kind today (sheetOf vs) room (conforming-sheet-bytes kind today vs c f b) (container kind vs) .1
+    (vs, conforming-sheet kind today vs c f, fewest-conforms kind today vs c f, refl, omega (arith, never-longer kind today vs c f, h))

@@ -16,6 +16,7 @@ use Rattle.kinds.specs.Tables.{Entry, Table, table}
 use Rattle.lengths.specs.Length.{lengthBytes}
 use Rattle.lengths.proofs.Writing.{length-bytes}
 use Rattle.container.specs.Container.{Values, tagBytes, encode, outerTag, container}
+use Rattle.container.proofs.Forms.{AllBytes}
 use Rattle.container.proofs.Tags.{Plain, Tags, short, double, tags}
 use Rattle.container.proofs.Exact.{bytes-front, bytes-back}
 use Rattle.sheet.specs.Sheet.{sheetOf, Sheeted, IsSheet}
@@ -93,11 +94,6 @@ opened-exact rows s b vs = (
 -- ---- bytes
 
 -- each value is of bytes
-abbrev pub AllBytes : Values → Type 0
-AllBytes [] = Unit {0}
-AllBytes (none ∷ vs) = AllBytes vs
-AllBytes (some v ∷ vs) = Bytes v × AllBytes vs
-
 -- the values of a sheet of bytes are of bytes
 pub sheet-values : (vs : Values) → Bytes (sheetOf vs) → AllBytes vs
 unfolding sheetOf

@@ -9,12 +9,12 @@ use Rattle.kinds.specs.Tables.{table}
 use Rattle.verdicts.specs.Output.{refusal, text, doneOf}
 use Rattle.verdicts.specs.declared.Finding.{Finding}
 use Rattle.verdicts.specs.declared.Done.{Done}
-use Rattle.container.specs.Container.{Values, Conforms}
+use Rattle.container.specs.Container.{Values, container, Conforms}
 use Rattle.sheet.specs.Sheet.{IsSheet}
 use Rattle.writing.specs.InOrder.{Refused}
 
--- of the sheet s, with a room for its container that was `before` and is left as `after`
+-- of the sheet s, with a room for its container that was `before` and is left as `after`. 2026-01: "Writing keeps the fewest bytes."
 pub data Puts (kind today : ℕ) (s before after : List ℕ) (r : Done) : Type 0 where
   refuses : (f : Finding) → Refused kind today s (length before) f → r ≡ doneOf (refusal f) → after ≡ zeros (length before) → Puts kind today s before after r
-  writes : (vs : Values) (c : List ℕ) → IsSheet (table kind) vs s → Conforms kind today vs c → length c ≤ length before → r ≡ doneOf (text c)
-      → after ≡ filled c (length before) → Puts kind today s before after r
+  writes : (vs : Values) (c : List ℕ) → IsSheet (table kind) vs s → Conforms kind today vs c → c ≡ container kind vs → length c ≤ length before
+      → r ≡ doneOf (text c) → after ≡ filled c (length before) → Puts kind today s before after r
