@@ -12,7 +12,7 @@ use Rattle.container.specs.Reading.{values}
 use Rattle.container.proofs.Promise.{kind-exact}
 use Rattle.report.specs.Report.{reportText}
 use Rattle.report.proofs.Answers.{report-0, report-4, conforming-output}
-use Rattle.report.proofs.Same.{same-report, same-verdict}
+use Rattle.report.proofs.Same.{same-forms, same-report, same-verdict}
 use Rattle.report.proofs.Converse.{converse}
 use Rattle.printout.specs.Printout.{shown, inputSize, reportRoom, printed, Asks}
 use Rattle.printout.proofs.Printed.{text-fits, printed-asked, kind-refused, date-refused}
@@ -35,8 +35,10 @@ at-the-desk = record {
   date-refused = date-refused;
   size-refused = λ s kind today c a k l.
       printed-asked a ∙ ap shown (report-4 kind today c reportRoom (kind-exact kind .1 k) (date-exact today .1 (a-date a)) (omega arith) l);
-  nothing-personal = λ kind today vs ws c d b g h i e o s u x y.
-      printed-asked x ∙ ap shown (same-report kind today vs ws c d b g h i e o reportRoom) ∙ sym (printed-asked y);
+  nothing-personal = λ kind today vs ws c d b g h i f e o s u x y.
+      printed-asked x ∙ ap shown (same-report kind today vs ws c d b g h i (same-forms kind today vs ws c d h i e f) e o reportRoom) ∙ sym (printed-asked y);
+  nothing-of-forms = λ kind today vs ws c d b g h i l e o s u x y.
+      printed-asked x ∙ ap shown (same-report kind today vs ws c d b g h i l e o reportRoom) ∙ sym (printed-asked y);
   nothing-of-refused = λ kind today c d v x y n l s u p q.
       printed-asked p ∙ ap shown (same-verdict kind today c d (sym (x .answer) ∙ y .answer) (λ z. n (rw (x .answer) z)) l reportRoom) ∙ sym (printed-asked q);
   conversely = λ k t l u vs ws c d b g h i s₁ s₂ x y e.

@@ -78,7 +78,7 @@ check-clean (conforms vs k a g) = rw a (given-clean g)
 
 write-clean : {kind today : ℕ} {s d e : List ℕ} {r : Done} → Puts kind today s d e r → Clean d e (r .number) (r .length)
 write-clean {d = d} (refuses f w a z) = rw a (left-nothing d (inr (f .fault, refl)) (z ∙ filled-none (length d)))
-write-clean {d = d} (writes vs c i k h a z) = rw a (left-text c d refl h z)
+write-clean {d = d} (writes vs c i k w h a z) = rw a (left-text c d refl h z)
 
 -- ---- encoding: 7, 3, or the 25 bytes
 

@@ -26,21 +26,23 @@ use Rattle.verdicts.specs.declared.Tag.the-variants.{NoTag, Of}
 use Rattle.verdicts.specs.declared.Finding.{Finding}
 use Rattle.verdicts.specs.declared.Verdict.{Verdict}
 use Rattle.verdicts.specs.declared.Done.{Done}
-use Rattle.verdicts.specs.Output.{refusal, doneOf}
+use Rattle.verdicts.specs.Output.{refusal, text, doneOf}
 use Rattle.verdicts.proofs.Apart.{never-zero, told-apart, not-both}
 use Rattle.kinds.specs.Tables.{table}
-use Rattle.container.specs.Container.{Values, tagBytes, long, Conforms}
+use Rattle.container.specs.Container.{Values, tagBytes, long, container, Conforms}
 use Rattle.container.specs.Reading.{Parsed, fault, outcomeOf, outcome, verdict}
 use Rattle.container.specs.InOrder.{Named}
 use Rattle.container.proofs.Named.{named-back, named-exact}
 use Rattle.container.proofs.Promise.{exact, exactly-when, unique}
+use Rattle.container.proofs.Forms.{one-forms, never-longer, fewest-conforms, only-fewest}
 use Rattle.container.proofs.Tagged.{at-place, none-when}
 use Rattle.sheet.specs.Sheet.{sheetOf, IsSheet}
 use Rattle.sheet.specs.Calls.{Given, short, fits, Says, breaks, conforms}
 use Rattle.sheet.specs.declared.Checked.{Checked}
-use Rattle.sheet.proofs.Sheets.{conforming-sheet, conforming-bytes, conforming-some}
+use Rattle.sheet.proofs.Sheets.{conforming-sheet, conforming-sheet-bytes, conforming-some}
 use Rattle.sheet.proofs.Bound.{sheet-bound}
 use Rattle.writing.specs.InOrder.{Refused}
+use Rattle.writing.specs.Writing.{writeOutput}
 use Rattle.writing.specs.Calls.{Puts, refuses, writes}
 use Rattle.writing.proofs.Calls.{leaves}
 use Rattle.writing.proofs.Promise.{accepted, written-bytes, read-write}
@@ -50,7 +52,7 @@ use Rattle.views.proofs.Elements.{absentView, refused-view, Shows, element-view
 use Rattle.prosianek.specs.Calls.{Checks, Writes, Views}
 use Rattle.prosianek.proofs.Checking.{judged, given}
 use Rattle.prosianek.proofs.Decoding.{decoded-once, decoded-0}
-use Rattle.promises.specs.Demands.{Shown, Demand2}
+use Rattle.promises.specs.Demands.{Shown, InFewest, Demand2}
 use Rattle.promises.proofs.Rooms.{gave}
 
 -- ---- the first broken rule
@@ -142,19 +144,21 @@ module _ {kind today : ℕ} {c before after : List ℕ} {r : Checked} where
 module _ (kind today : ℕ) where
   -- a write that answered 0, and one that did not
   wrote : {s before after : List ℕ} {r : Done} → Puts kind today s before after r → r .number ≡ 0
-      → (vs : Values) × (c : List ℕ) × IsSheet (table kind) vs s × Conforms kind today vs c × (length c ≤ length before) × (take (r .length) after ≡ c)
+      → (vs : Values) × (c : List ℕ) × IsSheet (table kind) vs s × Conforms kind today vs c × (c ≡ container kind vs) × (length c ≤ length before) × (take (r .length) after ≡ c)
   wrote (refuses f w a z) n = absurd (never-zero (f .fault) (rw a at n))
-  wrote {before = before} (writes vs c i k h a z) n = (vs, c, i, k, h, rw (a, z) (filled-front c (length before)))
+  wrote {before = before} (writes vs c i k w h a z) n = (vs, c, i, k, w, h, rw (a, z) (filled-front c (length before)))
 
   refused : {s before after : List ℕ} {r : Done} → Puts kind today s before after r → (r .number ≡ 0 → ⊥) → (f : Finding) × (r ≡ doneOf (refusal f)) × Refused kind today s (length before) f
   refused (refuses f w a z) n = (f, a, w)
-  refused (writes vs c i k h a z) n = absurd (n (rw a))
+  refused (writes vs c i k w h a z) n = absurd (n (rw a))
 
   accepts : (s before after : List ℕ) (r : Done) → Bytes s → Writes kind today s before after r
       → (r .number ≡ 0) ↔ ((vs : Values) × (c : List ℕ) × IsSheet (table kind) vs s × Conforms kind today vs c × (length c ≤ length before))
   accepts s before after r b h = (
-    λ z. let (vs, c, i, k, l, e) = wrote (h .puts) z in (vs, c, i, k, l),
-    λ v. gave before (accepted kind today s (length before) b (v .1) .1 (v .0, v .2, v .3, v .4)) (leaves b (h .puts)) .0,
+    λ z. let (vs, c, i, k, w, l, e) = wrote (h .puts) z in (vs, c, i, k, l),
+    λ v. let (vs, c, i, k, l) = v in
+        let m = never-longer kind today vs c k in
+        gave before (accepted kind today s (length before) b (container kind vs) .1 (vs, i, fewest-conforms kind today vs c k, refl, omega (arith, m, l))) (leaves b (h .puts)) .0,
   )
 
   write-only : (s before after : List ℕ) (r : Done) → Bytes s → Writes kind today s before after r → (f : Finding) → Refused kind today s (length before) f → r ≡ doneOf (refusal f)
@@ -162,27 +166,42 @@ module _ (kind today : ℕ) where
 
   write-tag : {s before after : List ℕ} {r : Done} → Puts kind today s before after r → (t : ℕ) → r .tag ≡ Of t → t < 65536
   write-tag {s} {before} (refuses f w a z) t e = row-tag kind today s (length before) f w t (rw a at e)
-  write-tag (writes vs c i k h a z) t e = absurd (not-both (rw a at e))
+  write-tag (writes vs c i k w h a z) t e = absurd (not-both (rw a at e))
 
   there : (c before after : List ℕ) (r : Checked) → Bytes c → Checks kind today c before after r → r .verdict .number ≡ 0 → r .room ≡ 0
       → (before₂ after₂ : List ℕ) (r₂ : Done) → Writes kind today (take (r .length) after) before₂ after₂ r₂ → length c ≤ length before₂
-      → (r₂ .number ≡ 0) × (take (r₂ .length) after₂ ≡ c)
-  there c before after r b h n z before₂ after₂ r₂ k l =
-      let (vs, f, t) = sheet-whole h n z in
-      gave before₂ (rw t (read-write kind today c b vs f (length before₂) l)) (leaves (rw t (conforming-bytes kind today vs c f b)) (k .puts))
+      → (vs : Values) → Conforms kind today vs c → (r₂ .number ≡ 0) × (take (r₂ .length) after₂ ≡ container kind vs) × (r₂ .length ≤ length c)
+  there c before after r b h n z before₂ after₂ r₂ k l vs j =
+      let (ws, f, t) = sheet-whole h n z in
+      let e : sheetOf ws ≡ sheetOf vs = ap sheetOf (unique kind today c b ws vs f j) in
+      let w : writeOutput kind today (take (r .length) after) (length before₂) ≡ text (container kind vs) = rw (t, e) (read-write kind today c b vs j (length before₂) l) in
+      let p = leaves (rw (t, e) (conforming-sheet-bytes kind today vs c j b)) (k .puts) in
+      let g = gave before₂ w p in
+      (g .0, g .1, rw (p .answer, w) (never-longer kind today vs c j))
 
   back : (s before after : List ℕ) (r : Done) → Bytes s → Writes kind today s before after r → r .number ≡ 0
       → (before₂ after₂ : List ℕ) (r₂ : Checked) → Checks kind today (take (r .length) after) before₂ after₂ r₂
       → (r₂ .verdict .number ≡ 0) × (length s ≤ length before₂ → (r₂ .room ≡ 0) × (take (r₂ .length) after₂ ≡ s))
   back s before after r b h z before₂ after₂ r₂ k =
-      let (vs, c, i, f, l, t) = wrote (h .puts) z in
-      let bc = written-bytes kind today s (length before) b c (accepted kind today s (length before) b c .1 (vs, i, f, l)) in
+      let (vs, c, i, f, w, l, t) = wrote (h .puts) z in
+      let bc = written-bytes kind today s (length before) b c (accepted kind today s (length before) b c .1 (vs, i, f, w, l)) in
       let k′ : Checks kind today c before₂ after₂ r₂ = rw t at k in
       let g = given bc k′ vs f in (
         rw (judged bc k′ .answer) (exactly-when kind today c bc .1 (vs, f)),
         λ m. let q = given-fits g (rw (i .written) at m) in
             (q, given-0 g q ∙ sym (i .written)),
       )
+
+-- ---- the fewest bytes
+
+module _ (kind today : ℕ) (vs : Values) where
+  -- the container that is written is in the fewest
+  written-fewest : InFewest kind today vs (container kind vs)
+  written-fewest d k = never-longer kind today vs d k
+
+  -- and one that is in the fewest is that one
+  fewest-written : (c : List ℕ) → Conforms kind today vs c → InFewest kind today vs c → c ≡ container kind vs
+  fewest-written c h f = only-fewest kind today vs c h (f (container kind vs) (fewest-conforms kind today vs c h))
 
 -- ---- views
 
@@ -246,7 +265,7 @@ encoding n d e k r h l = l .answer ∙ rw (r, le-ltb (length d) 25 h)
 pub demand-2 : Demand2
 demand-2 = record {
   exactly-when = λ kind today c before after r b h. rw (judged b h .answer) (exactly-when kind today c b);
-  only-one = unique;
+  only-one = λ kind today c b vs ws h k. let e = unique kind today c b vs ws h k in (e, one-forms kind today vs ws c e h k);
   first-named = λ kind today c before after r h. first-named (h .says);
   only-first = λ kind today c before after r b h. only-first kind today c b (r .verdict) (judged b h .answer);
   tag-at-place = λ kind today c before after r b h t e. tag-at-place b (h .says) t e .0;
@@ -265,13 +284,21 @@ demand-2 = record {
   sheet-values = λ kind today c before after r h n z.
       let (vs, f, t) = sheet-whole h n z in
       (vs, f, rw t (conforming-sheet kind today vs c f));
-  write-values = λ kind today s before after r h z. let (vs, c, i, k, l, e) = wrote kind today (h .puts) z in (vs, i, rw e k);
+  write-values = λ kind today s before after r h z.
+      let (vs, c, i, k, w, l, e) = wrote kind today (h .puts) z in
+      (vs, i, rw e k, rw (e, w) (written-fewest kind today vs));
   accepted-when = accepts;
   write-first-named = λ kind today s before after r h. refused kind today (h .puts);
   write-only-first = write-only;
   write-tag-is-none = λ kind today s before after r h. none-told (r .tag) (write-tag kind today (h .puts));
   room-for-sheet = λ kind today c before after r h. room-for-sheet (h .says);
-  read-then-write = there;
+  read-then-write = λ kind today c before after r b h n z before₂ after₂ r₂ k l vs f q.
+      let (a, t, s) = there kind today c before after r b h n z before₂ after₂ r₂ k l vs f in
+      (a, t ∙ sym (fewest-written kind today vs c f q));
+  comes-back-fewest = λ kind today c before after r b h n z before₂ after₂ r₂ k l vs f.
+      let (a, t, s) = there kind today c before after r b h n z before₂ after₂ r₂ k l vs f in
+      (a, rw t (fewest-conforms kind today vs c f), rw t (written-fewest kind today vs), s);
+  one-fewest = λ kind today vs c d h k f g. fewest-written kind today vs c h f ∙ sym (fewest-written kind today vs d k g);
   write-then-read = back;
   view-refused = λ kind today c v j. view-refused kind today c v (j .answer);
   view-value = λ kind today c b vs h i t o e v q at number place tag part bytes a. shown kind today c t (element-view kind today c b vs h i e v q) a;

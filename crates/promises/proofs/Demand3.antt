@@ -16,7 +16,7 @@ use Rattle.container.specs.Reading.{values, parsed}
 use Rattle.container.proofs.Promise.{kind-exact}
 use Rattle.report.specs.Report.{reportText}
 use Rattle.report.proofs.Answers.{short, report-0, names-nothing, conforming-output}
-use Rattle.report.proofs.Same.{same-rooms, same-verdict, rooms-alike}
+use Rattle.report.proofs.Same.{same-forms, same-rooms, same-verdict, rooms-alike}
 use Rattle.report.proofs.Converse.{converse}
 use Rattle.prosianek.specs.Calls.{Reports}
 use Rattle.promises.specs.Demands.{Demand3}
@@ -42,8 +42,10 @@ written kind today c b vs f before after r l h =
 
 pub demand-3 : Demand3
 demand-3 = record {
-  nothing-personal = λ kind today vs ws c d b g h k e o before₁ before₂ after₁ after₂ r₁ r₂ l x y.
-      same-rooms kind today vs ws c d b g h k e o before₁ before₂ l (x .leaves) (y .leaves);
+  nothing-personal = λ kind today vs ws c d b g h k f e o before₁ before₂ after₁ after₂ r₁ r₂ l x y.
+      same-rooms kind today vs ws c d b g h k (same-forms kind today vs ws c d h k e f) e o before₁ before₂ l (x .leaves) (y .leaves);
+  nothing-of-forms = λ kind today vs ws c d b g h k s e o before₁ before₂ after₁ after₂ r₁ r₂ l x y.
+      same-rooms kind today vs ws c d b g h k s e o before₁ before₂ l (x .leaves) (y .leaves);
   nothing-of-refused = λ kind today c d v x y n l before₁ before₂ after₁ after₂ r₁ r₂ m p q.
       rooms-alike kind today c d (same-verdict kind today c d (sym (x .answer) ∙ y .answer) (λ z. n (rw (x .answer) z)) l) before₁ before₂ m (p .leaves) (q .leaves);
   conversely = λ k t l u vs ws c d b g h i before₁ before₂ after₁ after₂ r₁ r₂ p q x y e.

@@ -5,21 +5,22 @@ use mathlib.Core.Path.{_≡_, refl, sym, ap, _∙_}
 use mathlib.Core.Bool.{Bool, true, false, not, _&&_, true≢false}
 use mathlib.Core.Option.{Option, none, some}
 use mathlib.Core.List.{List, [], _∷_}
+use native.Mathlib.Omega.{arith}
 use lib.Count.{ones}
 use lib.Dec.{ltb, eqb}
 use lib.ListN.{length}
+use lib.Seq.{take-all}
 use borrow.Author.Tests.{eqb-true, eq-eqb, ltb-true}
 use Rattle.laws.specs.Bytes.{Bytes}
 use Rattle.laws.specs.Digits.{digits}
 use Rattle.laws.specs.Tests.{each, same}
 use Rattle.laws.proofs.Cases.{and-true, all-true, same-eq}
-use Rattle.laws.proofs.Rooms.{filled-none}
 use Rattle.fascn.specs.Fascn.{exclusive, values, checked, characters, encoded, inRange}
 use Rattle.fascn.specs.Reading.{valuesOf, framed, decoded, isFascn}
 use Rattle.fascn.proofs.Framing.{range-exact}
 use Rattle.fascn.proofs.Codec.{fascn-exact}
 use Rattle.lengths.specs.Length.{Spelt, lengthBytes, readLength}
-use Rattle.lengths.proofs.Spellings.{reads as spelling-read}
+use Rattle.lengths.proofs.Spellings.{reads as spelling-read, exact}
 use Rattle.dates.specs.Calendar.{daysIn, exists}
 use Rattle.dates.specs.Date.{isDate, dateOf, inWindow}
 use Rattle.dates.specs.Moment.{isMoment}
@@ -45,7 +46,7 @@ use Rattle.sheet.specs.declared.Checked.{Checked}
 use Rattle.writing.specs.Writing.{writeOutput}
 use Rattle.writing.proofs.Calls.{leaves}
 use Rattle.prosianek.proofs.Checking.{answer, output, only}
-use Rattle.promises.specs.Examples.{Example, fascn-of, no-fascn, spells, no-length, date, no-date, kept, late, conforms, breaks, checks, refuses, today, Holds, All, examples}
+use Rattle.promises.specs.Examples.{Example, fascn-of, no-fascn, spells, no-length, date, no-date, kept, late, conforms, breaks, checks, writes, today, Holds, All, examples}
 
 -- ---- each row as a test
 
@@ -56,6 +57,11 @@ isNone : Option Spelt → Bool
 isNone none = true
 isNone (some l) = false
 
+-- of this number, and of so many bytes
+isLength : Option Spelt → ℕ → ℕ → Bool
+isLength none n w = false
+isLength (some l) n w = eqb (l .number) n && eqb (l .width) w
+
 sameTag : Tag → Tag → Bool
 sameTag NoTag NoTag = true
 sameTag NoTag (Of u) = false
@@ -65,7 +71,7 @@ sameTag (Of t) (Of u) = eqb t u
 tested : Example → Bool
 tested (fascn-of s n) = inRange n && same s (encoded n)
 tested (no-fascn s) = areBytes s && not (isFascn s)
-tested (spells s n) = ltb n 65536 && same s (lengthBytes n)
+tested (spells s n) = areBytes s && isLength (readLength s) n (length s)
 tested (no-length s) = areBytes s && isNone (readLength s)
 tested (date n) = isDate n
 tested (no-date n) = not (isDate n)
@@ -80,10 +86,10 @@ tested (checks kind c room number place tag three sheet) =
     let a = answer p room in
     areBytes c && eqb (a .verdict .number) number && eqb (a .verdict .place) place && sameTag (a .verdict .tag) tag && eqb (a .room) three && eqb (a .length) (length sheet)
     && same (output p room) sheet
-tested (refuses kind s room number place tag) =
+tested (writes kind s room number place tag c) =
     let o = writeOutput kind today s room in
     let d = doneOf o in
-    areBytes s && eqb (d .number) number && eqb (d .place) place && sameTag (d .tag) tag && eqb (d .length) 0 && same (bytesOf o) []
+    areBytes s && eqb (d .number) number && eqb (d .place) place && sameTag (d .tag) tag && eqb (d .length) (length c) && same (bytesOf o) c
 
 allTested : List Example → Bool
 allTested [] = true
@@ -100,6 +106,15 @@ are-bytes (b ∷ s) e = let c = and-true (ltb b 256) (each (λ b. ltb b 256) s) 
 fails : (b : Bool) {P : Type 0} → (b ≡ true) ↔ P → not b ≡ true → P → ⊥
 fails true h n p = let z : false ≡ true = n in absurd (true≢false (sym z))
 fails false h n p = true≢false (sym (h .1 p))
+
+is-length : (o : Option Spelt) (n w : ℕ) → isLength o n w ≡ true → o ≡ some (record { number = n; width = w })
+unfolding isLength
+is-length none n w e = absurd (true≢false (sym e))
+is-length (some l) n w e =
+    let c = and-true (eqb (l .number) n) (eqb (l .width) w) e in
+    let p = eqb-true (l .number) n (c .0) in
+    let q = eqb-true (l .width) w (c .1) in
+    λ i. some (record { number = p i; width = q i })
 
 same-tag : (g h : Tag) → sameTag g h ≡ true → g ≡ h
 unfolding sameTag
@@ -144,24 +159,27 @@ checks-so kind c room number place tag three sheet t before after r q h =
     let (x, z) = rw q at (only (are-bytes c (d 0)) h) in
     (x ∙ by-numbers a (eqb-true _ _ (d 1)) (eqb-true _ _ (d 2)) (same-tag _ _ (d 3)) (eqb-true _ _ (d 4)) (eqb-true _ _ (d 5)), z ∙ rw (same-eq (output p room) sheet (d 6)))
 
-refuses-so : (kind : ℕ) (s : List ℕ) (room number place : ℕ) (tag : Tag) → tested (refuses kind s room number place tag) ≡ true → Holds (refuses kind s room number place tag)
+writes-so : (kind : ℕ) (s : List ℕ) (room number place : ℕ) (tag : Tag) (c : List ℕ) → tested (writes kind s room number place tag c) ≡ true
+    → Holds (writes kind s room number place tag c)
 unfolding tested
-refuses-so kind s room number place tag t before after r q h =
+writes-so kind s room number place tag c t before after r q h =
     let o = writeOutput kind today s room in
     let v = doneOf o in
-    let d = all-true (areBytes s ∷ eqb (v .number) number ∷ eqb (v .place) place ∷ sameTag (v .tag) tag ∷ eqb (v .length) 0 ∷ same (bytesOf o) [] ∷ []) t in
+    let d = all-true (areBytes s ∷ eqb (v .number) number ∷ eqb (v .place) place ∷ sameTag (v .tag) tag ∷ eqb (v .length) (length c) ∷ same (bytesOf o) c ∷ []) t in
     let n = eqb-true _ _ (d 1) in
     let p = eqb-true _ _ (d 2) in
     let g = same-tag _ _ (d 3) in
     let l = eqb-true _ _ (d 4) in
     let w : Leaves o before after r = rw q at (leaves (are-bytes s (d 0)) (h .puts)) in
-    (w .answer ∙ (λ i. record { number = n i; place = p i; tag = g i; length = l i }), w .room ∙ rw (q, same-eq (bytesOf o) [] (d 5)) (sym (filled-none room)))
+    (w .answer ∙ (λ i. record { number = n i; place = p i; tag = g i; length = l i }), w .room ∙ rw (q, same-eq (bytesOf o) c (d 5)))
 
 so : (e : Example) → tested e ≡ true → Holds e
 unfolding tested isNone
 so (fascn-of s n) t = let c = and-true (inRange n) (same s (encoded n)) t in record { in-range = range-exact n .0 (c .0); written = same-eq s (encoded n) (c .1) }
 so (no-fascn s) t = let c = and-true (areBytes s) (not (isFascn s)) t in fails (isFascn s) (fascn-exact s (are-bytes s (c .0))) (c .1)
-so (spells s n) t = let c = and-true (ltb n 65536) (same s (lengthBytes n)) t in (ltb-true n 65536 (c .0), same-eq s (lengthBytes n) (c .1))
+so (spells s n) t =
+    let c = and-true (areBytes s) (isLength (readLength s) n (length s)) t in
+    rw (take-all (length s) s (omega arith)) at (exact s (are-bytes s (c .0)) n (length s) .0 (is-length (readLength s) n (length s) (c .1)) .1)
 so (no-length s) t = λ p r n e k.
     let c = and-true (areBytes s) (isNone (readLength s)) t in
     let f : readLength s ≡ some (record { number = n; width = length p }) = ap readLength e ∙ spelling-read p n r k in
@@ -176,7 +194,7 @@ so (breaks kind c number place tag) t =
     let d = all-true (areBytes c ∷ not (eqb number 0) ∷ eqb (v .number) number ∷ eqb (v .place) place ∷ sameTag (v .tag) tag ∷ []) t in
     breaks-so kind c (are-bytes c (d 0)) number place tag (fails (eqb number 0) (eqb-true number 0, eq-eqb number 0) (d 1)) (eqb-true _ _ (d 2)) (eqb-true _ _ (d 3)) (same-tag _ _ (d 4))
 so (checks kind c room number place tag three sheet) t = checks-so kind c room number place tag three sheet t
-so (refuses kind s room number place tag) t = refuses-so kind s room number place tag t
+so (writes kind s room number place tag c) t = writes-so kind s room number place tag c t
 
 all-so : (es : List Example) → allTested es ≡ true → All es
 unfolding allTested
@@ -184,7 +202,7 @@ all-so [] t = tt
 all-so (e ∷ es) t = let c = and-true (tested e) (allTested es) t in (so e (c .0), all-so es (c .1))
 
 all-tested : allTested examples ≡ true
-unfolding allTested tested areBytes isNone sameTag examples ones digits exclusive values checked characters encoded valuesOf framed decoded isFascn lengthBytes readLength daysIn exists isDate dateOf isMoment isUuid isPolicy isText ended isCreator pointHolds pointsHold viewHead extent recordHead isMinutiae readDer headOf items walked certificate ruleOf element located parsed outcome sheetOf writeOutput
+unfolding allTested tested areBytes isNone isLength sameTag examples ones digits exclusive values checked characters encoded valuesOf framed decoded isFascn lengthBytes readLength daysIn exists isDate dateOf isMoment isUuid isPolicy isText ended isCreator pointHolds pointsHold viewHead extent recordHead isMinutiae readDer headOf items walked certificate ruleOf element located parsed outcome sheetOf writeOutput
 all-tested = refl
 
 pub examples-hold : All examples

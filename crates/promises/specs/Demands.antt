@@ -96,11 +96,17 @@ pub record Shown (c v : List ℕ) (at : ℕ × ℕ) (number place tag : ℕ) (pa
   pub inside : offset + length v ≤ length c
   pub stands : take (length v) (drop offset c) ≡ v
 
+-- 2026-01: a container with these values is in the fewest bytes: none with the same values is shorter
+abbrev pub InFewest : ℕ → ℕ → Values → List ℕ → Type 0
+InFewest kind today vs c = (d : List ℕ) → Conforms kind today vs d → length c ≤ length d
+
 pub record Demand2 : Type 0 where
-  -- "conforms exactly when some values allowed by the rules are written as those bytes"; and there is only one such list of values
+  -- "conforms exactly when some values allowed by the rules are written as those bytes", 2026-01: "in some allowed length forms"; and there is only one such
+  -- list of values, in only one list of forms
   pub exactly-when : (kind today : ℕ) (c before after : List ℕ) (r : Checked) → Bytes c → Checks kind today c before after r
       → (r .verdict .number ≡ 0) ↔ ((vs : Values) × Conforms kind today vs c)
-  pub only-one : (kind today : ℕ) (c : List ℕ) → Bytes c → (vs ws : Values) → Conforms kind today vs c → Conforms kind today ws c → vs ≡ ws
+  pub only-one : (kind today : ℕ) (c : List ℕ) → Bytes c → (vs ws : Values) (h : Conforms kind today vs c) (k : Conforms kind today ws c)
+      → (vs ≡ ws) × (h .forms ≡ k .forms)
   -- "otherwise the first broken rule and its place are named", 2026-02: with "the element's tag"
   pub first-named : (kind today : ℕ) (c before after : List ℕ) (r : Checked) → Checks kind today c before after r → (r .verdict .number ≡ 0 → ⊥)
       → (f : Fault) × (r .verdict .number ≡ numberOf f) × Named kind today c (found f (r .verdict .place) (r .verdict .tag))
@@ -132,11 +138,11 @@ pub record Demand2 : Type 0 where
   -- no sheet beside a broken rule or a 3: its length is 0, and the room all zeros
   pub no-sheet : (kind today : ℕ) (c before after : List ℕ) (r : Checked) → Checks kind today c before after r
       → (r .verdict .number ≡ 0 → ⊥) ⊎ (r .room ≡ 0 → ⊥) → (r .length ≡ 0) × (after ≡ zeros (length before))
-  -- a sheet that was read holds the container's values, and a container that was written has the sheet's
+  -- a sheet that was read holds the container's values, and a container that was written has the sheet's: "Writing keeps the fewest bytes."
   pub sheet-values : (kind today : ℕ) (c before after : List ℕ) (r : Checked) → Checks kind today c before after r → r .verdict .number ≡ 0 → r .room ≡ 0
       → (vs : Values) × Conforms kind today vs c × IsSheet (table kind) vs (take (r .length) after)
   pub write-values : (kind today : ℕ) (s before after : List ℕ) (r : Done) → Writes kind today s before after r → r .number ≡ 0
-      → (vs : Values) × IsSheet (table kind) vs s × Conforms kind today vs (take (r .length) after)
+      → (vs : Values) × IsSheet (table kind) vs s × Conforms kind today vs (take (r .length) after) × InFewest kind today vs (take (r .length) after)
   -- a sheet is accepted exactly when it holds allowed values whose container fits the room
   pub accepted-when : (kind today : ℕ) (s before after : List ℕ) (r : Done) → Bytes s → Writes kind today s before after r
       → (r .number ≡ 0) ↔ ((vs : Values) × (c : List ℕ) × IsSheet (table kind) vs s × Conforms kind today vs c × (length c ≤ length before))
@@ -149,10 +155,17 @@ pub record Demand2 : Type 0 where
       → (tagNumber (r .tag) ≡ noTag) ↔ (r .tag ≡ NoTag)
   -- a room with six bytes more than the container takes its sheet, and so one of 32,774 takes any
   pub room-for-sheet : (kind today : ℕ) (c before after : List ℕ) (r : Checked) → Checks kind today c before after r → length c + 6 ≤ length before → r .room ≡ 0
-  -- "Writing the values that were read gives the container back byte for byte"
+  -- "Writing the values that were read gives the container back byte for byte", 2026-01: "a container in fewest bytes comes back byte for byte"
   pub read-then-write : (kind today : ℕ) (c before after : List ℕ) (r : Checked) → Bytes c → Checks kind today c before after r → r .verdict .number ≡ 0 → r .room ≡ 0
       → (before₂ after₂ : List ℕ) (r₂ : Done) → Writes kind today (take (r .length) after) before₂ after₂ r₂ → length c ≤ length before₂
-      → (r₂ .number ≡ 0) × (take (r₂ .length) after₂ ≡ c)
+      → (vs : Values) → Conforms kind today vs c → InFewest kind today vs c → (r₂ .number ≡ 0) × (take (r₂ .length) after₂ ≡ c)
+  -- "any other comes back as the fewest-byte container with the same elements": with the same values, and so no longer than it was; of these there is only one
+  pub comes-back-fewest : (kind today : ℕ) (c before after : List ℕ) (r : Checked) → Bytes c → Checks kind today c before after r → r .verdict .number ≡ 0 → r .room ≡ 0
+      → (before₂ after₂ : List ℕ) (r₂ : Done) → Writes kind today (take (r .length) after) before₂ after₂ r₂ → length c ≤ length before₂
+      → (vs : Values) → Conforms kind today vs c
+      → (r₂ .number ≡ 0) × Conforms kind today vs (take (r₂ .length) after₂) × InFewest kind today vs (take (r₂ .length) after₂) × (r₂ .length ≤ length c)
+  pub one-fewest : (kind today : ℕ) (vs : Values) (c d : List ℕ) → Conforms kind today vs c → Conforms kind today vs d
+      → InFewest kind today vs c → InFewest kind today vs d → c ≡ d
   -- "and reading what was written gives the values back": what was written conforms, whatever the room, and one that suffices gets the sheet
   pub write-then-read : (kind today : ℕ) (s before after : List ℕ) (r : Done) → Bytes s → Writes kind today s before after r → r .number ≡ 0
       → (before₂ after₂ : List ℕ) (r₂ : Checked) → Checks kind today (take (r .length) after) before₂ after₂ r₂
@@ -165,10 +178,11 @@ pub record Demand2 : Type 0 where
   pub view-value : (kind today : ℕ) (c : List ℕ) → Bytes c → (vs : Values) → Conforms kind today vs c → (i t : ℕ) (o : Bool) → rowAt kind i ≡ Holds t o
       → (v : List ℕ) → getD vs i none ≡ some v → (at : ℕ × ℕ) (number place tag : ℕ) (part : ℕ × ℕ) (bytes : List ℕ) → Views kind today c t at number place tag part bytes
       → Shown c v at number place tag part bytes
-  -- "its place and length are fixed": it starts behind the outer tag and length, the elements of the rows before it, and its own tag and length
-  pub view-place : (kind today : ℕ) (c : List ℕ) → Bytes c → (vs : Values) → Conforms kind today vs c → (i t : ℕ) (o : Bool) → rowAt kind i ≡ Holds t o
+  -- "its place and length are fixed": it starts behind the outer tag and length, the elements of the rows before it, and its own tag and length, as these
+  -- stand in the container that was given
+  pub view-place : (kind today : ℕ) (c : List ℕ) → Bytes c → (vs : Values) (h : Conforms kind today vs c) → (i t : ℕ) (o : Bool) → rowAt kind i ≡ Holds t o
       → (v : List ℕ) → getD vs i none ≡ some v
-      → (at : ℕ × ℕ) (number place tag : ℕ) (part : ℕ × ℕ) (bytes : List ℕ) → Views kind today c t at number place tag part bytes → part .1 ≡ at .1 + placeOf kind vs i t v
+      → (at : ℕ × ℕ) (number place tag : ℕ) (part : ℕ × ℕ) (bytes : List ℕ) → Views kind today c t at number place tag part bytes → part .1 ≡ at .1 + placeOf kind vs (h .forms) i t
   pub view-absent : (kind today : ℕ) (c : List ℕ) → Bytes c → (vs : Values) → Conforms kind today vs c → (i t : ℕ) (o : Bool) → rowAt kind i ≡ Holds t o
       → getD vs i none ≡ none → (at : ℕ × ℕ) (number place tag : ℕ) (part : ℕ × ℕ) (bytes : List ℕ) → Views kind today c t at number place tag part bytes
       → (number ≡ numberOf NoElement) × (tag ≡ noTag) × (bytes ≡ [])
@@ -185,12 +199,18 @@ pub record Demand2 : Type 0 where
 -- ---- Demand 3. "Replace the personal values of a conforming container by any others of the same lengths that meet the rules: under the same date the desk
 -- report is the same in every byte. Two refused containers of one kind and length, same date, same broken rule at the same place, get the same report.
 -- Conversely, two conforming containers with equal reports have the same kind, tags, lengths and open values. All for any earlier contents of the report
--- room (at least 512 bytes)." 2026-02: "What demand 3 says of two refused containers now also needs the same tag."
+-- room (at least 512 bytes)." 2026-02: "What demand 3 says of two refused containers now also needs the same tag." 2026-01: "In demand 3's first half the
+-- forms are kept equal; the bytes line stays the length given."
 
 pub record Demand3 : Type 0 where
   -- "Personal" is whatever is neither in the shape (which rows are there, and their lengths) nor among the open values
-  pub nothing-personal : (kind today : ℕ) (vs ws : Values) (c d : List ℕ) → Bytes c → Bytes d → Conforms kind today vs c → Conforms kind today ws d
-      → shape vs ≡ shape ws → openOf kind vs ≡ openOf kind ws
+  pub nothing-personal : (kind today : ℕ) (vs ws : Values) (c d : List ℕ) → Bytes c → Bytes d → (h : Conforms kind today vs c) (k : Conforms kind today ws d)
+      → h .forms ≡ k .forms → shape vs ≡ shape ws → openOf kind vs ≡ openOf kind ws
+      → (before₁ before₂ after₁ after₂ : List ℕ) (r₁ r₂ : Done) → length before₁ ≡ length before₂
+      → Reports kind today c before₁ after₁ r₁ → Reports kind today d before₂ after₂ r₂ → (r₁ ≡ r₂) × (after₁ ≡ after₂)
+  -- and of the forms a report tells nothing but the length that they make: where the two containers are equally long, whatever their forms, it is the same
+  pub nothing-of-forms : (kind today : ℕ) (vs ws : Values) (c d : List ℕ) → Bytes c → Bytes d → Conforms kind today vs c → Conforms kind today ws d
+      → length c ≡ length d → shape vs ≡ shape ws → openOf kind vs ≡ openOf kind ws
       → (before₁ before₂ after₁ after₂ : List ℕ) (r₁ r₂ : Done) → length before₁ ≡ length before₂
       → Reports kind today c before₁ after₁ r₁ → Reports kind today d before₂ after₂ r₂ → (r₁ ≡ r₂) × (after₁ ≡ after₂)
   -- "Two refused containers of one kind and length, same date, same broken rule at the same place" and with the same tag: with one verdict
@@ -223,9 +243,11 @@ pub record AtTheDesk : Type 0 where
       → printed s ≡ refusedText (numberOf NoDate)
   pub size-refused : (s : List ℕ) (kind today : ℕ) (c : List ℕ) → Asks s kind today c → IsKind kind → largest < length c
       → printed s ≡ refusedText (numberOf LargeContainer)
-  -- "Replace the personal values .. the desk report is the same in every byte."
-  pub nothing-personal : (kind today : ℕ) (vs ws : Values) (c d : List ℕ) → Bytes c → Bytes d → Conforms kind today vs c → Conforms kind today ws d
-      → shape vs ≡ shape ws → openOf kind vs ≡ openOf kind ws → (s u : List ℕ) → Asks s kind today c → Asks u kind today d → printed s ≡ printed u
+  -- "Replace the personal values .. the desk report is the same in every byte": with the forms kept equal, or the length that they make
+  pub nothing-personal : (kind today : ℕ) (vs ws : Values) (c d : List ℕ) → Bytes c → Bytes d → (h : Conforms kind today vs c) (k : Conforms kind today ws d)
+      → h .forms ≡ k .forms → shape vs ≡ shape ws → openOf kind vs ≡ openOf kind ws → (s u : List ℕ) → Asks s kind today c → Asks u kind today d → printed s ≡ printed u
+  pub nothing-of-forms : (kind today : ℕ) (vs ws : Values) (c d : List ℕ) → Bytes c → Bytes d → Conforms kind today vs c → Conforms kind today ws d
+      → length c ≡ length d → shape vs ≡ shape ws → openOf kind vs ≡ openOf kind ws → (s u : List ℕ) → Asks s kind today c → Asks u kind today d → printed s ≡ printed u
   -- "Two refused containers of one kind and length, same date, same broken rule at the same place" and with the same tag "get the same report."
   pub nothing-of-refused : (kind today : ℕ) (c d : List ℕ) (v : Verdict) → Judges kind today c v → Judges kind today d v → (v .number ≡ 0 → ⊥) → length c ≡ length d
       → (s u : List ℕ) → Asks s kind today c → Asks u kind today d → printed s ≡ printed u

@@ -1,10 +1,10 @@
--- The examples of document 01, P1 to P14, those of requests 2026-04, 2026-13 and 2026-02, and further rows, as one table: what each row says, over the rules themselves, and the table.
+-- The examples of document 01, P1 to P14, those of requests 2026-04, 2026-13, 2026-02 and 2026-01, and further rows, as one table: what each row says, over the rules themselves, and the table.
 use Prim.Native.Nat.{ℕ, zero, suc, _+_}
 use mathlib.Core.Path.{_≡_}
 use mathlib.Core.Option.{Option, none, some}
 use mathlib.Core.List.{List, [], _∷_, _++_}
 use lib.ListN.{length, replicate}
-use Rattle.laws.specs.Room.{zeros, filled}
+use Rattle.laws.specs.Room.{filled}
 use Rattle.fascn.specs.Fascn.{IsFascnOf, IsFascn}
 use Rattle.fascn.specs.declared.Numbers.{Numbers}
 use Rattle.lengths.specs.Length.{Spells}
@@ -34,7 +34,7 @@ pub data Example : Type 0 where
   conforms : ℕ → List ℕ → Example
   breaks : ℕ → List ℕ → ℕ → ℕ → Tag → Example
   checks : ℕ → List ℕ → ℕ → ℕ → ℕ → Tag → ℕ → List ℕ → Example
-  refuses : ℕ → List ℕ → ℕ → ℕ → ℕ → Tag → Example
+  writes : ℕ → List ℕ → ℕ → ℕ → ℕ → Tag → List ℕ → Example
 
 -- "With today 20260301"
 abbrev pub today : ℕ
@@ -54,9 +54,9 @@ Holds (breaks kind c number place tag) = (f : Fault) × (number ≡ numberOf f) 
 -- a check with a room of so many bytes, whatever they were, answers this number, place and tag with this number beside them, and leaves this sheet and zeros
 Holds (checks kind c room number place tag short sheet) = (before after : List ℕ) (r : Checked) → length before ≡ room → Checks kind today c before after r
     → (r ≡ record { verdict = record { number = number; place = place; tag = tag }; room = short; length = length sheet }) × (after ≡ filled sheet room)
--- a write of this sheet, with a room of so many bytes, whatever they were, answers this number, place and tag, and leaves zeros alone
-Holds (refuses kind s room number place tag) = (before after : List ℕ) (r : Done) → length before ≡ room → Writes kind today s before after r
-    → (r ≡ record { number = number; place = place; tag = tag; length = 0 }) × (after ≡ zeros room)
+-- a write of this sheet, with a room of so many bytes, whatever they were, answers this number, place and tag, and leaves this container and zeros
+Holds (writes kind s room number place tag c) = (before after : List ℕ) (r : Done) → length before ≡ room → Writes kind today s before after r
+    → (r ≡ record { number = number; place = place; tag = tag; length = length c }) × (after ≡ filled c room)
 
 abbrev pub All : List Example → Type 0
 All [] = Unit {0}
@@ -98,6 +98,17 @@ element tag value = tag ∷ length value ∷ value
 
 abbrev chuidOf : List ℕ → List ℕ
 chuidOf elements = 0x53 ∷ length elements ∷ elements
+
+-- 2026-01: the bytes before the 3E of case R, 55 of them; and a CHUID with 3E of n bytes AA, its outer length and that of 3E spelt by these bytes; its sheet
+abbrev upTo3E : List ℕ
+upTo3E = element 0x30 (p1 0xEB) ++ (element 0x34 uuid ++ element 0x35 expiry)
+
+abbrev signed : List ℕ → List ℕ → ℕ → List ℕ
+signed outer form n = 0x53 ∷ (outer ++ (upTo3E ++ (0x3E ∷ (form ++ (replicate n 0xAA ++ element 0xFE [])))))
+
+abbrev signedSheet : ℕ → List ℕ
+signedSheet n =
+    0 ∷ 0 ∷ 0 ∷ 26 ∷ (p1 0xEB ++ (0 ∷ 0 ∷ 0 ∷ 0 ∷ 0 ∷ 17 ∷ (uuid ++ (0 ∷ 9 ∷ (expiry ++ (0 ∷ 0 ∷ 0 ∷ (n + 1) ∷ (replicate n 0xAA ++ (0 ∷ 1 ∷ []))))))))
 
 -- case R; and a CHUID with each optional element
 
@@ -171,11 +182,11 @@ examples =
     -- P1, P2
     fascn-of (p1 0xEB) p1Numbers
     ∷ no-fascn (p1 0xEA)
-    -- P3 to P8
+    -- P3 to P8, P6 as 2026-01 has it
     ∷ spells (0x7F ∷ []) 127
     ∷ no-length (0x81 ∷ 0x7F ∷ [])
     ∷ spells (0x81 ∷ 0x80 ∷ []) 128
-    ∷ no-length (0x82 ∷ 0x00 ∷ 0xFF ∷ [])
+    ∷ spells (0x82 ∷ 0x00 ∷ 0xFF ∷ []) 255
     ∷ spells (0x82 ∷ 0x01 ∷ 0x00 ∷ []) 256
     ∷ no-length (0x80 ∷ [])
     -- P9 to P12
@@ -265,12 +276,38 @@ examples =
     ∷ breaks 2 (0x7E ∷ 0x00 ∷ []) 10 0 NoTag
     ∷ breaks 2 (0x53 ∷ 0x80 ∷ []) 11 0 NoTag
     -- a sheet that is written names the row: the first mandatory one missing, FE missing, a UUID of fifteen bytes, a broken FASC-N, the policy of P14
-    ∷ refuses 2 (replicate 18 0) 99 15 2 (Of 0x30)
-    ∷ refuses 2 (chuidRows (p1 0xEB) uuid (0 ∷ 0 ∷ [])) 99 15 65 (Of 0xFE)
-    ∷ refuses 2 (chuidRows (p1 0xEB) (replicate 15 0) (0 ∷ 1 ∷ [])) 99 16 33 (Of 0x34)
-    ∷ refuses 2 (chuidRows (p1 0xEA) uuid (0 ∷ 1 ∷ [])) 99 17 2 (Of 0x30)
-    ∷ refuses 3 (0 ∷ 12 ∷ (application ++ (0 ∷ 3 ∷ 0x60 ∷ 0x00 ∷ []))) 20 20 13 (Of 0x5F2F)
+    ∷ writes 2 (replicate 18 0) 99 15 2 (Of 0x30) []
+    ∷ writes 2 (chuidRows (p1 0xEB) uuid (0 ∷ 0 ∷ [])) 99 15 65 (Of 0xFE) []
+    ∷ writes 2 (chuidRows (p1 0xEB) (replicate 15 0) (0 ∷ 1 ∷ [])) 99 16 33 (Of 0x34) []
+    ∷ writes 2 (chuidRows (p1 0xEA) uuid (0 ∷ 1 ∷ [])) 99 17 2 (Of 0x30) []
+    ∷ writes 3 (0 ∷ 12 ∷ (application ++ (0 ∷ 3 ∷ 0x60 ∷ 0x00 ∷ []))) 20 20 13 (Of 0x5F2F) []
     -- and none where no row is at fault: a sheet cut short, a room that is too small
-    ∷ refuses 2 (chuidRows (p1 0xEB) uuid (0 ∷ [])) 99 5 0 NoTag
-    ∷ refuses 2 chuidSheet 60 3 0 NoTag
+    ∷ writes 2 (chuidRows (p1 0xEB) uuid (0 ∷ [])) 99 5 0 NoTag []
+    ∷ writes 2 chuidSheet 60 3 0 NoTag []
+    -- 2026-01: 127 in one byte alone; 200 in each form; 85 begins no length; the largest
+    ∷ no-length (0x82 ∷ 0x00 ∷ 0x7F ∷ [])
+    ∷ no-length (0x84 ∷ 0x00 ∷ 0x00 ∷ 0x00 ∷ 0x7F ∷ [])
+    ∷ spells (0x81 ∷ 0xC8 ∷ []) 200
+    ∷ spells (0x82 ∷ 0x00 ∷ 0xC8 ∷ []) 200
+    ∷ spells (0x83 ∷ 0x00 ∷ 0x00 ∷ 0xC8 ∷ []) 200
+    ∷ spells (0x84 ∷ 0x00 ∷ 0x00 ∷ 0x00 ∷ 0xC8 ∷ []) 200
+    ∷ no-length (0x85 ∷ 0x00 ∷ 0x00 ∷ 0x00 ∷ 0x00 ∷ 0xC8 ∷ [])
+    ∷ spells (0x84 ∷ 0xFF ∷ 0xFF ∷ 0xFF ∷ 0xFF ∷ []) 4294967295
+    -- a CHUID with a signature of 200 bytes, in the fewest bytes and in longer forms; 127 and 128 bytes in two
+    ∷ conforms 2 (signed (0x82 ∷ 0x01 ∷ 0x04 ∷ []) (0x81 ∷ 0xC8 ∷ []) 200)
+    ∷ conforms 2 (signed (0x82 ∷ 0x01 ∷ 0x05 ∷ []) (0x82 ∷ 0x00 ∷ 0xC8 ∷ []) 200)
+    ∷ conforms 2 (signed (0x83 ∷ 0x00 ∷ 0x01 ∷ 0x07 ∷ []) (0x84 ∷ 0x00 ∷ 0x00 ∷ 0x00 ∷ 0xC8 ∷ []) 200)
+    ∷ breaks 2 (signed (0x81 ∷ 0xBB ∷ []) (0x81 ∷ 0x7F ∷ []) 127) 11 58 (Of 0x3E)
+    ∷ conforms 2 (signed (0x81 ∷ 0xBC ∷ []) (0x81 ∷ 0x80 ∷ []) 128)
+    -- the outer length too; bytes that are missing; a number that no container holds is 12, however large
+    ∷ breaks 2 (signed (0x81 ∷ 0x3B ∷ []) (0x00 ∷ []) 0) 11 0 NoTag
+    ∷ breaks 2 (signed (0x84 ∷ 0xFF ∷ 0xFF ∷ 0xFF ∷ 0xFF ∷ []) (0x00 ∷ []) 0) 12 0 NoTag
+    ∷ breaks 2 (0x53 ∷ 0x3B ∷ (upTo3E ++ (0x3E ∷ 0x84 ∷ 0x00 ∷ 0x00 ∷ []))) 11 57 (Of 0x3E)
+    ∷ breaks 2 (signed (0x3E ∷ []) (0x83 ∷ 0x01 ∷ 0x00 ∷ 0x00 ∷ []) 0) 12 57 (Of 0x3E)
+    ∷ breaks 2 (signed (0x3F ∷ []) (0x84 ∷ 0xFF ∷ 0xFF ∷ 0xFF ∷ 0xFF ∷ []) 0) 12 57 (Of 0x3E)
+    -- one sheet of the longest forms and of the fewest bytes, and it is written in the fewest; DER keeps them
+    ∷ checks 2 (signed (0x83 ∷ 0x00 ∷ 0x01 ∷ 0x07 ∷ []) (0x84 ∷ 0x00 ∷ 0x00 ∷ 0x00 ∷ 0xC8 ∷ []) 200) 267 0 0 NoTag 0 (signedSheet 200)
+    ∷ writes 2 (signedSheet 200) 264 0 0 NoTag (signed (0x82 ∷ 0x01 ∷ 0x04 ∷ []) (0x81 ∷ 0xC8 ∷ []) 200)
+    ∷ writes 2 (signedSheet 200) 263 3 0 NoTag []
+    ∷ breaks 8 (bare (three 0x30 (0x04 ∷ 0x82 ∷ 0x00 ∷ 0x80 ∷ replicate 128 0))) 24 3 (Of 0x70)
     ∷ []
