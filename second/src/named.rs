@@ -8,6 +8,7 @@ use crate::samples::{card, ccc, certificate, chuid, discovery, face, fingers, pr
 use crate::samples::{COMPRESSED, P256, RSA, UUID};
 use crate::{CONTAINER_MAX, SHEET_ROOM};
 
+mod lengths;
 mod tags;
 
 /// A call and its answer.
@@ -28,6 +29,7 @@ pub fn all() -> Vec<Group> {
         rooms(),
         refused_sheets(),
         tags::all(),
+        lengths::all(),
         views(),
         reports(),
     ]
