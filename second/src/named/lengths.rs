@@ -114,13 +114,14 @@ fn forms_of_an_element() -> Group {
 fn refused_forms() -> Group {
     let refused = |length: &[u8], bytes| check(5, &with_bb(length, bytes), (11, 5, Some(0xBB)));
     let under_128 = |number: usize| (1..=4).map(move |form| refused(&spelled(number, form), number.max(121)));
-    let first = |byte: u8| refused(&[byte, 0, 0, 0, 0, 0, 0, 0, 128], 128);
+    let first = |byte: u8| refused(&[byte, 0, 0, 0, 128], 128);
     (
-        "P4, P8 and all other forms of 0, 1 and 127 that are refused; 80, 85 to 88, 90 and FF with bytes that would say 128",
+        "P4, P8 and all other forms of 0, 1 and 127 that are refused; 85 to 88, 80, 90 and FF with bytes that say 128",
         under_128(0)
             .chain(under_128(1))
             .chain(under_128(127))
-            .chain([0x80, 0x85, 0x86, 0x87, 0x88, 0x90, 0xFF].map(first))
+            .chain((5..=8).map(|form| refused(&spelled(128, form), 128)))
+            .chain([0x80, 0x90, 0xFF].map(first))
             .collect(),
     )
 }
