@@ -84,6 +84,7 @@ pub fn fewest(length: usize) -> usize {
     }
 }
 
+/// Writes a length, so much larger than the right one, in this form.
 pub fn put_length(out: &mut Vec<u8>, length: usize, delta: i64, form: Form) {
     let length = (length as i64 + delta).max(0) as usize;
     let bytes = match (form, fewest(length)) {

@@ -78,7 +78,7 @@ fn length_cases() -> Group {
 fn spelled(number: usize, bytes: usize) -> Vec<u8> {
     match bytes {
         0 => vec![number as u8],
-        _ => [&[0x80 + bytes as u8], &number.to_be_bytes()[8 - bytes..]].concat(),
+        _ => [&[0x80 + bytes as u8], &(number as u64).to_be_bytes()[8 - bytes..]].concat(),
     }
 }
 
