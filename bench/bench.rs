@@ -8,7 +8,7 @@
 //! All go over the same cases in the same order, for each first Prosianek, then Rust.
 
 use second::card::{all_kinds, kind_of, Rule, CONFORMS};
-use second::generate::{certificate_kinds, endless_row};
+use second::generate::{certificate_kinds, endless_row, Card, Form, Forms, LONGEST_FORM};
 use second::tag_number;
 use second::trees::{certificate_of_pairs, Tree};
 use std::arch::asm;
@@ -22,6 +22,7 @@ use prosianek::{prosianek_check, prosianek_fascn_decode, prosianek_fascn_encode,
 const TODAY: u64 = 2026_03_01;
 const LARGEST: usize = second::CONTAINER_MAX;
 const CHUID: u64 = 2;
+const FINGERS: u64 = 6;
 const PIVAUTH: u64 = 8;
 
 // ---------------------------------------------------------------------------------------------
@@ -209,7 +210,11 @@ fn agree(case: &Case) {
 type Values = Vec<Option<Vec<u8>>>;
 
 fn sample(kind: u64) -> Vec<u8> {
-    let path = format!("samples/{}.bin", kind_of(kind).unwrap().name.to_lowercase());
+    sample_named(&kind_of(kind).unwrap().name.to_lowercase())
+}
+
+fn sample_named(name: &str) -> Vec<u8> {
+    let path = format!("samples/{}.bin", name);
     std::fs::read(&path).unwrap_or_else(|error| panic!("{}: {}", path, error))
 }
 
@@ -348,6 +353,15 @@ fn item_cases(items: usize) -> Vec<Case> {
     cases
 }
 
+/// The calls on a container with each length in its fewest bytes, and on one with the same values and each length over 127 as 84.
+/// The sheet is the same, and so write is left out.
+fn form_cases(kind: u64, container: &[u8]) -> Vec<Case> {
+    let card = Card { kind, today: TODAY, rows: values_of(kind, container) };
+    let forms = [(", fewest bytes", Form::Fewest), (", longest forms", Form::Padded(LONGEST_FORM))];
+    let cases = |(what, form)| container_cases(what, kind, &card.container_in(&Forms::all(form)));
+    forms.into_iter().flat_map(cases).filter(|case| !matches!(case.call, Call::Write)).collect()
+}
+
 fn fascn_cases() -> Vec<Case> {
     let chuid = sample(CHUID);
     let (_, fascn) = second::view(CHUID, TODAY, &chuid, 0x30);
@@ -386,8 +400,11 @@ fn tables() -> Vec<(&'static str, Vec<Case>)> {
     let sizes = [1, 2, 4, 8, 16, 32].iter().map(|kib| kib * 1024);
     let growth = sizes.flat_map(|size| container_cases("", CHUID, &stretched(CHUID, &chuid, size))).collect();
     let items = [500, 1_000, 2_000, 4_000, 8_000, 16_000].iter().flat_map(|&items| item_cases(items)).collect();
+    let forms = [(CHUID, sample_named("chuid-longer")), (FINGERS, sample(FINGERS)), (PIVAUTH, sample(PIVAUTH))];
+    let forms = forms.iter().flat_map(|(kind, container)| form_cases(*kind, container)).collect();
     vec![
         ("Each kind, typical and largest", kinds),
+        ("Lengths in fewest bytes and in longer forms", forms),
         ("From 1 KiB to 32 KiB", growth),
         ("From 500 to 16,000 items of a certificate", items),
     ]

@@ -25,6 +25,7 @@ static const uint64_t tags[] = {
 static uint8_t container[PROSIANEK_LARGEST_CONTAINER + 1];
 static uint8_t sheet[PROSIANEK_SHEET_ROOM];
 static uint8_t written[PROSIANEK_LARGEST_CONTAINER];
+static uint8_t again[PROSIANEK_SHEET_ROOM];
 static uint8_t report[PROSIANEK_REPORT_ROOM];
 
 // A word of digits. strtoull alone would take signs and spaces too.
@@ -75,7 +76,15 @@ static int there_and_back(const uint8_t *fascn, size_t size) {
     return 1;
 }
 
-// Writes the container of the sheet; whether it is the one that the sheet was read from.
+// Whether the container that was written has the sheet that it was written from.
+static int same_sheet(uint64_t kind, uint64_t today, size_t sheet_length, size_t size) {
+    uint64_t place, tag, room, length;
+    uint64_t number = prosianek_check(kind, today, written, size, again, sizeof again, &place, &tag, &room, &length);
+    return number == PROSIANEK_DONE && length == sheet_length && memcmp(again, sheet, sheet_length) == 0;
+}
+
+// Writes the container of the sheet; whether it is the one that the sheet was read from. A container with a length in a longer
+// form than it needs comes back in fewer bytes: each length is written in the fewest.
 static int written_back(uint64_t kind, uint64_t today, size_t sheet_length, size_t size) {
     struct verdict v;
     uint64_t length;
@@ -84,12 +93,16 @@ static int written_back(uint64_t kind, uint64_t today, size_t sheet_length, size
         refused("write", v);
         return 0;
     }
-    if (length != size || memcmp(written, container, size) != 0) {
-        printf("write: the container did not come back\n");
-        return 0;
+    if (length == size && memcmp(written, container, size) == 0) {
+        printf("write: the container came back byte for byte\n");
+        return 1;
     }
-    printf("write: the container came back byte for byte\n");
-    return 1;
+    if (length < size && same_sheet(kind, today, sheet_length, length)) {
+        printf("write: the container came back in %" PRIu64 " bytes, the fewest\n", length);
+        return 1;
+    }
+    printf("write: the container did not come back\n");
+    return 0;
 }
 
 // The file's bytes go to `container`, as many as it holds; whether all were read that there are.

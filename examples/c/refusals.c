@@ -160,6 +160,8 @@ static void elements(void) {
     breaks_at("35 for 34", kind, chuid, sizeof chuid, 29, 0x35, PROSIANEK_MISSING_ROW, 29, 0x35);
     breaks_at("34 with 17 bytes", kind, chuid, sizeof chuid, 30, 0x11, PROSIANEK_ELEMENT_LENGTH, 29, 0x34);
     breaks_at("34 with a length of 80", kind, chuid, sizeof chuid, 30, 0x80, PROSIANEK_LENGTH_FORM, 29, 0x34);
+    breaks_at("34 with a length of 85", kind, chuid, sizeof chuid, 30, 0x85, PROSIANEK_LENGTH_FORM, 29, 0x34);
+    breaks_at("34 with a length of 84 01 01 01 01", kind, chuid, sizeof chuid, 30, 0x84, PROSIANEK_OVERRUN, 29, 0x34);
     breaks_at("3E past the end", kind, chuid, sizeof chuid, 58, 0x03, PROSIANEK_OVERRUN, 57, 0x3E);
     breaks_at("no FE", kind, chuid, sizeof chuid - 2, 1, 0x39, PROSIANEK_MISSING_ROW, 59, PROSIANEK_NO_TAG);
     breaks_at("another outer tag", kind, chuid, sizeof chuid, 0, 0x30, PROSIANEK_OUTER_TAG, 0, PROSIANEK_NO_TAG);

@@ -122,7 +122,8 @@ fn viewed(
     }
 }
 
-/// Writes the container of a sheet; whether it is the one that the sheet was read from.
+/// Writes the container of a sheet; whether it is the one that the sheet was read from. A container with a length in a longer
+/// form than it needs comes back in fewer bytes: each length is written in the fewest.
 fn written_back(
     out: &mut impl Write,
     kind: u64,
@@ -140,11 +141,27 @@ fn written_back(
             writeln!(out, "write: the container came back byte for byte")?;
             Ok(true)
         }
+        Ok(length)
+            if length < container.len() && has_sheet(kind, today, &written[..length], sheet) =>
+        {
+            writeln!(
+                out,
+                "write: the container came back in {length} bytes, the fewest"
+            )?;
+            Ok(true)
+        }
         Ok(_) => {
             writeln!(out, "write: the container did not come back")?;
             Ok(false)
         }
     }
+}
+
+/// Whether a container has this sheet.
+fn has_sheet(kind: u64, today: u64, container: &[u8], sheet: &[u8]) -> bool {
+    let mut again = vec![0; prosianek::SHEET_ROOM];
+    let verdict = prosianek::check(kind, today, container, &mut again);
+    verdict == Ok(Some(sheet.len())) && again[..sheet.len()] == *sheet
 }
 
 /// Decodes a FASC-N and encodes it again; whether it came back.

@@ -1,10 +1,11 @@
 //! Certificates in DER, as they come from files: they conform as each kind of certificate, and with damage of every sort they are
-//! refused. tests/certificates makes them.
+//! refused. Each kind has the lengths of its containers in another form, and those inside a certificate are in fewest bytes
+//! always. tests/certificates makes the files.
 
 use crate::trial::{Fault, Trial};
 use second::batch::{Answer, Call, Record};
-use second::card::CONFORMS;
-use second::generate::{certificate_kinds, EXAMPLE_DAY};
+use second::card::{length_at, CONFORMS};
+use second::generate::{certificate_kinds, Form, Forms, EXAMPLE_DAY};
 use second::samples::certificate;
 use second::trees::Tree;
 use second::values::CERTIFICATE_LEVELS;
@@ -16,6 +17,12 @@ const SHOWN: usize = 5;
 fn text((number, place, tag): Verdict) -> String {
     let tag = tag.map_or("--".to_string(), |tag| format!("{:02X}", tag));
     format!("{} {} {}", number, place, tag)
+}
+
+/// A container with this value of 70: the first kind has its lengths in fewest bytes, and each other a byte more than the one before.
+fn container_of(kind: u64, value: &[u8]) -> Vec<u8> {
+    let zeros = kind - certificate_kinds()[0];
+    certificate(kind, value, 0, None).container_in(&Forms::all(Form::Padded(zeros as usize)))
 }
 
 struct Judging {
@@ -50,21 +57,18 @@ impl Judging {
     /// behind the outer length.
     fn check(&mut self, what: &str, value: &[u8], number: u64) {
         for kind in self.kinds.clone() {
-            let record = given(Call::Check, kind, certificate(kind, value, 0, None).container());
-            let place = match record.bytes[1] {
-                0x81 => 3,
-                0x82 => 4,
-                _ => 2,
-            };
-            self.call(what, &record, if number == number::DONE { CONFORMS } else { (number, place, Some(0x70)) });
+            let record = given(Call::Check, kind, container_of(kind, value));
+            let (_, taken) = length_at(&record.bytes[1..]).expect("an outer length");
+            let broken = (number, 1 + taken as u64, Some(0x70));
+            self.call(what, &record, if number == number::DONE { CONFORMS } else { broken });
         }
     }
 
-    /// All calls on a certificate that conforms: its part is the certificate, and its sheet is written back.
+    /// All calls on a certificate that conforms: its part is the certificate, and its sheet is written back in fewest bytes.
     fn conforms(&mut self, what: &str, value: &[u8]) {
         self.check(what, value, number::DONE);
         for kind in self.kinds.clone() {
-            let container = certificate(kind, value, 0, None).container();
+            let (container, fewest) = (container_of(kind, value), certificate(kind, value, 0, None).container());
             let view = Record { element: 0x70, ..given(Call::View, kind, container.clone()) };
             assert_eq!(self.call(what, &view, CONFORMS).part, value, "{}: another part", what);
             let report = Record { room: REPORT_MAX, ..given(Call::Report, kind, container.clone()) };
@@ -72,8 +76,8 @@ impl Judging {
             let check = Record { room: container.len() + 6, ..given(Call::Check, kind, container.clone()) };
             let answer = self.call(what, &check, CONFORMS);
             let sheet = answer.room[..answer.length as usize].to_vec();
-            let write = Record { room: container.len(), ..given(Call::Write, kind, sheet) };
-            assert_eq!(self.call(what, &write, CONFORMS).room, container, "{}: not written back", what);
+            let write = Record { room: fewest.len(), ..given(Call::Write, kind, sheet) };
+            assert_eq!(self.call(what, &write, CONFORMS).room, fewest, "{}: not written back", what);
         }
     }
 

@@ -1,12 +1,12 @@
 //! The comparison is tried itself: faults are planted in calls of every sort, one at a time, and each has to be seen at
 //! the byte where it was planted. So are the tags that a mistaken program would name, in calls on every fault of a container or
-//! a sheet.
+//! a sheet, and the places that one would give which takes every length for one in fewest bytes.
 
 use crate::trial::{call_text, native, Fault, Sort, Stretch, Trial, Wrong};
 use second::batch::{Answer, Call, Record};
-use second::card::{kind_of, walk};
-use second::generate::{Inputs, Rng};
-use second::{faults, tag_number, NO_TAG};
+use second::card::{kind_of, length_at, walk};
+use second::generate::{fewest, Inputs, Rng};
+use second::{faults, lengths, tag_number, NO_TAG};
 use std::collections::BTreeMap;
 use std::ops::Range;
 
@@ -66,18 +66,20 @@ fn faults_before(stretch: &Stretch) -> Vec<Planted> {
     }
 }
 
-/// The mistakes that are made in a tag.
-const MISTAKES: [&str; 10] = [
-    "0 for none",
-    "none for 00",
-    "none for a tag",
-    "the outer tag",
-    "the missing row's",
-    "the missing row's at the end",
-    "the element's before",
-    "one byte of two",
-    "two bytes for one",
-    "the element's that is asked for",
+/// The mistakes that are made in a number that is lent, each with the name of that.
+const MISTAKES: [(&str, &str); 12] = [
+    ("tag", "0 for none"),
+    ("tag", "none for 00"),
+    ("tag", "none for a tag"),
+    ("tag", "the outer tag"),
+    ("tag", "the missing row's"),
+    ("tag", "the missing row's at the end"),
+    ("tag", "the element's before"),
+    ("tag", "one byte of two"),
+    ("tag", "two bytes for one"),
+    ("tag", "the element's that is asked for"),
+    ("place", "as in fewest bytes"),
+    ("offset", "as in fewest bytes"),
 ];
 
 /// The tag of the last element before the first fault of a container, or before the end; and that of the mandatory row which has
@@ -123,6 +125,36 @@ fn mistaken_tags(record: &Record, expected: &Answer) -> Vec<(&'static str, u64)>
     // where a mistake makes no difference it is none
     out.retain(|&(_, tag)| tag != right);
     out
+}
+
+/// How many bytes the lengths before this offset of a container take beyond the fewest.
+fn spare_before(record: &Record, offset: u64) -> u64 {
+    let spare = |length: usize, taken: usize| (taken - 1 - fewest(length)) as u64;
+    let (content, taken) = match length_at(record.bytes.get(1..).unwrap_or_default()) {
+        Some(length) if offset > 0 => length,
+        _ => return 0,
+    };
+    let (mut out, mut end) = (spare(content, taken), 1 + taken);
+    let table = kind_of(record.kind).expect("a kind");
+    let _ = walk(table, record.today, &record.bytes, |row, start, next| {
+        if start as u64 <= offset {
+            let tag = if table.rows[row].tag > 0xFF { 2 } else { 1 };
+            out += spare(next - start, start - end - tag);
+        }
+        end = next;
+    });
+    out
+}
+
+/// The place or the offset that a program would give which takes every length for one in fewest bytes.
+fn mistaken_places(record: &Record, expected: &Answer) -> Vec<(&'static str, u64)> {
+    if !matches!(record.call, Call::Check | Call::View) {
+        return Vec::new();
+    }
+    let both = [("place", expected.place), ("offset", expected.offset)];
+    let mistaken = both.map(|(name, right)| (name, right - spare_before(record, right)));
+    // where no length before it has a longer form than it needs, there is no mistake
+    mistaken.into_iter().zip(both).filter(|(mistaken, right)| mistaken != right).map(|(mistaken, _)| mistaken).collect()
 }
 
 /// Whether every other stretch stands between guards of at least 64 bytes.
@@ -172,21 +204,35 @@ impl Trying {
         Ok(())
     }
 
-    /// Plants each mistaken tag of a call. Before that nothing is wrong, or it is told.
-    fn plant_tags(&mut self, record: &Record) -> Result<(), Wrong> {
+    /// Plants each mistaken tag, place and offset of a call. Before that nothing is wrong, or it is told.
+    fn plant_mistakes(&mut self, record: &Record) -> Result<(), Wrong> {
         let expected = record.answer();
         self.trial.run(record, &expected, &Fault::None)?;
-        let range = match self.trial.stretches().iter().find(|stretch| stretch.name == "tag") {
-            Some(stretch) => stretch.range.clone(),
-            None => return Ok(()),
-        };
         for (how, tag) in mistaken_tags(record, &expected) {
-            let (wrong, right) = (native(&[tag]), native(&[tag_number(expected.tag)]));
-            let at = range.start + wrong.iter().zip(&right).take_while(|(wrong, right)| wrong == right).count();
-            let planted = (how, Fault::Mistaken(range.clone(), tag), Wrong::Answer(at));
-            self.expect_seen(record, &expected, "tag", planted);
+            self.plant_mistake(record, &expected, ("tag", how), tag, tag_number(expected.tag));
+        }
+        for (name, place) in mistaken_places(record, &expected) {
+            let right = if name == "place" { expected.place } else { expected.offset };
+            self.plant_mistake(record, &expected, (name, "as in fewest bytes"), place, right);
         }
         Ok(())
+    }
+
+    /// Plants this number in the place of the right one, where the call is lent one of that name.
+    fn plant_mistake(
+        &mut self,
+        record: &Record,
+        expected: &Answer,
+        (name, how): (&'static str, &'static str),
+        number: u64,
+        right: u64,
+    ) {
+        let stretch = self.trial.stretches().iter().find(|stretch| stretch.name == name);
+        if let Some(range) = stretch.map(|stretch| stretch.range.clone()) {
+            let (wrong, right) = (native(&[number]), native(&[right]));
+            let at = range.start + wrong.iter().zip(&right).take_while(|(wrong, right)| wrong == right).count();
+            self.expect_seen(record, expected, name, (how, Fault::Mistaken(range, number), Wrong::Answer(at)));
+        }
     }
 
     /// Plants one fault in the stretch of this name.
@@ -208,30 +254,33 @@ impl Trying {
             let texts: Vec<String> = STRETCHES.iter().map(|&name| format!("{}:{}", name, planted(name))).collect();
             println!("  {}: {}", what, texts.join(" "));
         }
-        let mistaken = |how| self.planted.get(&(how, "tag")).copied().unwrap_or_default();
-        let texts: Vec<String> = MISTAKES.iter().map(|&how| format!("{}: {}", how, mistaken(how))).collect();
-        println!("  another tag, {}", texts.join(", "));
+        let mistaken = |name, how| self.planted.get(&(how, name)).copied().unwrap_or_default();
+        for which in ["tag", "place", "offset"] {
+            let here = MISTAKES.iter().filter(|(name, _)| *name == which);
+            let texts: Vec<String> = here.map(|&(name, how)| format!("{}: {}", how, mistaken(name, how))).collect();
+            println!("  another {}, {}", which, texts.join(", "));
+        }
         println!("{} planted faults, {} unseen", self.planted.values().sum::<usize>(), self.unseen);
         self.unseen == 0
             && STRETCHES.iter().all(|&name| self.planted.keys().any(|planted| planted.1 == name))
-            && MISTAKES.iter().all(|&how| mistaken(how) > 0)
+            && MISTAKES.iter().all(|&(name, how)| mistaken(name, how) > 0)
     }
 }
 
 /// Plants the faults and gives whether all were seen.
 pub fn all_seen(seed: u64) -> bool {
     let mut trying = Trying { trial: Trial::new(!seed), rng: Rng::new(seed), planted: BTreeMap::new(), unseen: 0 };
-    let (made, with_faults) = (calls(seed), faults::records());
+    let (made, with_faults) = (calls(seed), [faults::records(), lengths::records()].concat());
     let planting = made.iter().map(|record| (record, true)).chain(with_faults.iter().map(|record| (record, false)));
     for (record, everywhere) in planting {
-        let outcome = if everywhere { trying.plant(record) } else { trying.plant_tags(record) };
+        let outcome = if everywhere { trying.plant(record) } else { trying.plant_mistakes(record) };
         if let Err(wrong) = outcome {
             println!("without a planted fault: {}", trying.trial.tell(record, wrong));
             return false;
         }
     }
     println!(
-        "faults planted in {} calls of every sort, and tags in {} calls on broken ones, one at a time:",
+        "faults planted in {} calls of every sort, and mistakes in {} calls on broken ones and longer forms, one at a time:",
         made.len(),
         with_faults.len()
     );

@@ -206,13 +206,23 @@ pub fn admit(kind: u64, today: u64) -> Result<&'static Kind, u64> {
     }
 }
 
-/// The value and the byte count of the length field at the front of `bytes`, in the fewest bytes.
+/// The value and the byte count of the length field at the front of `bytes`. A byte up to 7F is the length itself; a longer one
+/// stands behind 81 to 84 in as many bytes, whether or not fewer would hold it.
 pub fn length_at(bytes: &[u8]) -> Option<(usize, usize)> {
-    match *bytes {
-        [short @ 0..=0x7F, ..] => Some((usize::from(short), 1)),
-        [0x81, low @ 0x80..=0xFF, ..] => Some((usize::from(low), 2)),
-        [0x82, high @ 1..=0xFF, low, ..] => Some((usize::from(high) << 8 | usize::from(low), 3)),
-        _ => None,
+    let (length, taken) = match *bytes {
+        [short @ 0..=0x7F, ..] => return Some((usize::from(short), 1)),
+        [0x81, a, ..] => ([0, 0, 0, a], 2),
+        [0x82, a, b, ..] => ([0, 0, a, b], 3),
+        [0x83, a, b, c, ..] => ([0, a, b, c], 4),
+        [0x84, a, b, c, d, ..] => ([a, b, c, d], 5),
+        _ => return None,
+    };
+    let length = u32::from_be_bytes(length) as usize;
+    // what one byte holds has no other form
+    if length > 0x7F {
+        Some((length, taken))
+    } else {
+        None
     }
 }
 
@@ -287,6 +297,7 @@ where
         at += tag_bytes;
         let (length, taken) = length_at(&container[at..]).ok_or(broken(number::LENGTH_FORM))?;
         at += taken;
+        // nothing is added to the length before it is known to be no larger than the container
         if length > end - at {
             return Err(broken(number::PAST_END));
         }
@@ -369,8 +380,8 @@ fn put_sheet(kind: &Kind, spans: &Spans, container: &[u8], room: &mut [u8]) -> u
     at
 }
 
-/// Writes the container that a value sheet describes: the verdict, and the length of the container. Zeros are behind it, or in
-/// the whole room after a refusal.
+/// Writes the container that a value sheet describes, each length in the fewest bytes: the verdict, and the length of the
+/// container. Zeros are behind it, or in the whole room after a refusal.
 pub fn write(kind: u64, today: u64, sheet: &[u8], room: &mut [u8]) -> (Verdict, u64) {
     let (verdict, length) = match try_write(kind, today, sheet, room) {
         Ok(length) => (CONFORMS, length),
@@ -458,6 +469,7 @@ fn tag_bytes(tag: u16) -> usize {
     }
 }
 
+/// How many bytes a length takes that is written: the fewest.
 fn length_bytes(length: usize) -> usize {
     match length {
         0..=0x7F => 1,

@@ -1,33 +1,37 @@
 //! Containers and sheets with one fault each: in every row of every kind, and between any two of its rows. So every tag that a
-//! verdict can name is asked for in every rule that can name it, and so is every place where a verdict names none.
+//! verdict can name is asked for in every rule that can name it, and so is every place where a verdict names none. The containers
+//! are made with all lengths in the fewest bytes, and again with longer forms wherever those are allowed.
 
 use crate::batch::{Call, Record};
 use crate::card::{self, all_kinds, Row, Rule};
-use crate::generate::{conforming_on, plain, put_length, Card, Form, Rng, EXAMPLE_DAY};
+use crate::generate::{conforming_on, lengthened, plain, put_length, value_of};
+use crate::generate::{Card, Form, Forms, Rng, EXAMPLE_DAY};
 use crate::{trees, values, REPORT_MAX};
 use std::collections::BTreeSet;
 
 /// So many bytes hold the container of any sheet here.
 const ROOM: usize = 3_000;
 
-/// The calls on every fault: a container is checked, viewed and reported, a sheet is written, without a room and with one.
+/// The calls on every fault: a container is checked, viewed and reported, a sheet is written, without a room and with one. Of those
+/// three calls one is made where a length is wrong, and on a container in longer forms.
 pub fn records() -> Vec<Record> {
     let mut out = Vec::new();
-    for whole in all_kinds().map(Whole::new) {
-        let (kind, rows) = (whole.card.kind, whole.rows);
-        for (i, bytes) in whole.containers().into_iter().enumerate() {
-            out.push(plain(Call::Check, kind, bytes.clone()));
-            // one row after the other is asked for, whichever has the fault
-            let element = u64::from(rows[i % rows.len()].tag);
-            out.push(Record { element, ..plain(Call::View, kind, bytes.clone()) });
-            out.push(Record { room: REPORT_MAX, fill: 0xA5, ..plain(Call::Report, kind, bytes) });
+    for whole in all_kinds().map(Whole::in_fewest_bytes) {
+        let kind = whole.card.kind;
+        for (i, bytes) in whole.faults().into_iter().enumerate() {
+            out.extend(whole.calls(i, bytes));
         }
+        out.extend(whole.calls_in_turn(whole.length_faults()));
         out.extend(whole.first_bytes().into_iter().map(|bytes| plain(Call::Check, kind, bytes)));
         for bytes in whole.sheets() {
             for room in [0, ROOM] {
                 out.push(Record { room, fill: 0xA5, ..plain(Call::Write, kind, bytes.clone()) });
             }
         }
+    }
+    for whole in all_kinds().filter_map(Whole::in_longer_forms) {
+        out.extend(whole.calls_in_turn(whole.faults()));
+        out.extend(whole.calls_in_turn(whole.length_faults()));
     }
     out
 }
@@ -36,11 +40,59 @@ fn tag_bytes(tag: u16) -> Vec<u8> {
     tag.to_be_bytes()[usize::from(tag <= 0xFF)..].to_vec()
 }
 
-/// An element that says that it has so many bytes more than it has.
-fn element(tag: u16, value: &[u8], more: i64) -> Vec<u8> {
+/// An element that says in this form that it has so many bytes more than it has.
+fn element(tag: u16, value: &[u8], more: i64, form: Form) -> Vec<u8> {
     let mut out = tag_bytes(tag);
-    put_length(&mut out, value.len(), more, Form::Fewest);
+    put_length(&mut out, value.len(), more, form);
     out.extend(value);
+    out
+}
+
+/// Lengths that are refused, whatever follows: 80, 85 and more, and 0 and 127 in other than one byte.
+const REFUSED_FORMS: [&[u8]; 14] = [
+    &[0x80],
+    &[0x81, 0x00],
+    &[0x81, 0x7F],
+    &[0x82, 0x00, 0x00],
+    &[0x82, 0x00, 0x7F],
+    &[0x83, 0, 0, 0],
+    &[0x83, 0, 0, 0x7F],
+    &[0x84, 0, 0, 0, 0],
+    &[0x84, 0, 0, 0, 0x7F],
+    &[0x85, 0, 0, 0, 0, 0x80],
+    &[0x88, 0, 0, 0, 0, 0, 0, 0, 0x80],
+    &[0x90],
+    &[0xC8],
+    &[0xFF],
+];
+
+/// Lengths that no container holds. With each of the last six a sum of 16 or of 32 bits would be small again.
+const FAR: [&[u8]; 12] = [
+    &[0x82, 0xFF, 0x00],
+    &[0x83, 0x01, 0x00, 0x00],
+    &[0x83, 0xFF, 0xFF, 0xFF],
+    &[0x84, 0x00, 0x01, 0x00, 0x02],
+    &[0x84, 0x01, 0x00, 0x00, 0x00],
+    &[0x84, 0x80, 0x00, 0x00, 0x00],
+    &[0x82, 0xFF, 0xFA],
+    &[0x83, 0x00, 0xFF, 0xFF],
+    &[0x84, 0x00, 0x00, 0xFF, 0xF0],
+    &[0x84, 0xFF, 0xFF, 0xFF, 0x00],
+    &[0x84, 0xFF, 0xFF, 0xFF, 0xFA],
+    &[0x84, 0xFF, 0xFF, 0xFF, 0xFF],
+];
+
+/// Every length of 81 to 84 that is cut short, with zeros behind its first byte and with others.
+fn cut_lengths() -> Vec<Vec<u8>> {
+    let mut out = vec![Vec::new()];
+    for bytes in 1..=4 {
+        for left in 0..bytes {
+            for byte in [0x00, 0x01] {
+                out.push([&[0x80 + bytes as u8], &vec![byte; left][..]].concat());
+            }
+        }
+    }
+    out.dedup();
     out
 }
 
@@ -50,31 +102,69 @@ struct Whole {
     outer: u8,
     rows: &'static [Row],
     values: Vec<Vec<u8>>,
+    /// The forms of the lengths that have no fault.
+    forms: Forms,
 }
 
 impl Whole {
-    fn new(number: u64) -> Whole {
+    fn in_fewest_bytes(number: u64) -> Whole {
         let kind = card::kind_of(number).expect("a kind");
         let mut rng = Rng::new(number);
         loop {
             let card = conforming_on(&mut rng, number, EXAMPLE_DAY);
-            let values: Vec<Vec<u8>> = card.rows.iter().flatten().cloned().collect();
-            if values.len() == kind.rows.len() && card.container().len() < 500 {
-                return Whole { card, outer: kind.outer, rows: kind.rows, values };
+            let whole = card.rows.iter().all(Option::is_some);
+            if whole && card.container().len() < 500 {
+                return Whole::of(card, kind, Forms::all(Form::Fewest));
             }
         }
     }
 
+    /// The same with a value of 200 bytes, or of as many as there may be, where a row can be so long. None, where the kind has
+    /// nothing that is over 127 bytes long.
+    fn in_longer_forms(number: u64) -> Option<Whole> {
+        let mut forms = Forms::all(Form::Padded(2));
+        forms.rows.iter_mut().enumerate().for_each(|(row, form)| *form = Form::Padded(1 + row % 3));
+        let card = lengthened(&mut Rng::new(number), Whole::in_fewest_bytes(number).card, 200);
+        let longer = card.container_in(&forms) != card.container();
+        longer.then(|| Whole::of(card, card::kind_of(number).expect("a kind"), forms))
+    }
+
+    fn of(card: Card, kind: &'static card::Kind, forms: Forms) -> Whole {
+        let values = card.rows.iter().flatten().cloned().collect();
+        Whole { card, outer: kind.outer, rows: kind.rows, values, forms }
+    }
+
+    /// A check, a view and a report. One row after the other is viewed, whichever has the fault.
+    fn calls(&self, i: usize, bytes: Vec<u8>) -> [Record; 3] {
+        let kind = self.card.kind;
+        let element = u64::from(self.rows[i % self.rows.len()].tag);
+        [
+            plain(Call::Check, kind, bytes.clone()),
+            Record { element, ..plain(Call::View, kind, bytes.clone()) },
+            Record { room: REPORT_MAX, fill: 0xA5, ..plain(Call::Report, kind, bytes) },
+        ]
+    }
+
+    fn calls_in_turn(&self, containers: Vec<Vec<u8>>) -> Vec<Record> {
+        let in_turn = |(i, bytes)| self.calls(i, bytes)[i % 3].clone();
+        containers.into_iter().enumerate().map(in_turn).collect()
+    }
+
+    /// The row's element with this value.
+    fn with_value(&self, row: usize, value: &[u8]) -> Vec<u8> {
+        element(self.rows[row].tag, value, 0, self.forms.rows[row])
+    }
+
     /// The elements of these rows as they should be.
     fn elements(&self, rows: std::ops::Range<usize>) -> Vec<u8> {
-        rows.flat_map(|row| element(self.rows[row].tag, &self.values[row], 0)).collect()
+        rows.flat_map(|row| self.with_value(row, &self.values[row])).collect()
     }
 
     /// The container of the elements before this row, and then of these bytes.
     fn up_to(&self, row: usize, then: &[u8]) -> Vec<u8> {
         let content = [&self.elements(0..row)[..], then].concat();
         let mut out = vec![self.outer];
-        put_length(&mut out, content.len(), 0, Form::Fewest);
+        put_length(&mut out, content.len(), 0, self.forms.outer);
         out.extend(content);
         out
     }
@@ -84,14 +174,13 @@ impl Whole {
         self.up_to(row, &[bytes, &self.elements(row + 1..self.rows.len())].concat())
     }
 
-    fn containers(&self) -> Vec<Vec<u8>> {
-        let mut out = self.outer_faults();
+    /// Faults of tags and values.
+    fn faults(&self) -> Vec<Vec<u8>> {
+        let mut out = Vec::new();
         for row in 0..self.rows.len() {
-            out.extend(self.length_forms(row));
-            out.extend(self.wrong_ends(row));
             for value in self.refused_values(row) {
-                out.push(self.up_to(row, &element(self.rows[row].tag, &value, 0)));
-                out.push(self.instead_of(row, &element(self.rows[row].tag, &value, 0)));
+                out.push(self.up_to(row, &self.with_value(row, &value)));
+                out.push(self.instead_of(row, &self.with_value(row, &value)));
             }
         }
         for next in 0..=self.rows.len() {
@@ -107,6 +196,17 @@ impl Whole {
         out
     }
 
+    /// Faults of lengths, and of the outer tag.
+    fn length_faults(&self) -> Vec<Vec<u8>> {
+        let mut out = self.outer_faults();
+        for row in 0..self.rows.len() {
+            out.extend(self.refused_lengths(row));
+            out.extend(self.edge_lengths(row));
+            out.extend(self.wrong_ends(row));
+        }
+        out
+    }
+
     /// The outer tag and length in other ways, around elements that are as they should be.
     fn outer_faults(&self) -> Vec<Vec<u8>> {
         let content = self.elements(0..self.rows.len());
@@ -116,40 +216,58 @@ impl Whole {
             [out, content.clone()].concat()
         };
         let first = self.rows[0].tag as u8;
-        let cut: [&[u8]; 5] = [&[], &[first], &[self.outer], &[self.outer, 0x81], &[self.outer, 0x82, 0x01]];
         // the last of them is that of other kinds: 53 and 7E differ by 2D
         let tags = [0x00, 0x5F, 0xFF, first, self.outer ^ 1, self.outer ^ 0x2D];
-        let forms = [Form::Raw(0x80), Form::Raw(0xFF), Form::Long(3), Form::Long(4)];
-        let mut out: Vec<_> = cut.iter().map(|bytes| bytes.to_vec()).collect();
-        out.extend(tags.map(|outer| around(outer, 0, Form::Fewest)));
-        out.extend(forms.map(|form| around(self.outer, 0, form)));
-        out.extend([-1, 1, 2, 200].map(|more| around(self.outer, more, Form::Fewest)));
+        let with_length = |length: &[u8]| [&[self.outer], length, &content].concat();
+        let mut out = vec![Vec::new(), vec![first]];
+        out.extend(cut_lengths().iter().map(|length| [&[self.outer], &length[..]].concat()));
+        out.extend(tags.map(|outer| around(outer, 0, self.forms.outer)));
+        out.extend(REFUSED_FORMS.iter().chain(&FAR).map(|length| with_length(length)));
+        for form in [Form::Fewest, Form::Short, Form::Long(1), Form::Long(2), Form::Long(3), Form::Long(4)] {
+            out.extend([-1, 0, 1, 2, 200, 65_536, 1 << 24, 1 << 31].map(|more| around(self.outer, more, form)));
+        }
         out
     }
 
-    /// The row's tag and a length that is cut short, or not in the permitted form: with nothing behind it, and with the rest.
-    fn length_forms(&self, row: usize) -> Vec<Vec<u8>> {
-        let cut: [&[u8]; 4] = [&[], &[0x81], &[0x82], &[0x82, 0x01]];
-        let formed: [&[u8]; 6] =
-            [&[0x80], &[0x81, 0x00], &[0x81, 0x7F], &[0x82, 0x00, 0xFF], &[0x83, 0, 0, 0], &[0xFF]];
+    /// The row's tag and a length that is cut short, or not in a permitted form: with nothing behind it, and with the rest.
+    fn refused_lengths(&self, row: usize) -> Vec<Vec<u8>> {
         let tag = tag_bytes(self.rows[row].tag);
         let with = |length: &[u8]| [&tag[..], length].concat();
-        let mut out: Vec<_> = cut.iter().map(|length| self.up_to(row, &with(length))).collect();
-        for length in formed {
+        let mut out: Vec<_> = cut_lengths().iter().map(|length| self.up_to(row, &with(length))).collect();
+        for length in REFUSED_FORMS {
             out.push(self.up_to(row, &with(length)));
             out.push(self.instead_of(row, &with(length)));
         }
         out
     }
 
+    /// The row's element with a value of a length at which the form changes, in every form that holds it: those of 127 bytes are
+    /// refused but for one, and the others are not. The value is a good one if the row permits any of that length.
+    fn edge_lengths(&self, row: usize) -> Vec<Vec<u8>> {
+        let Row { tag, rule, .. } = self.rows[row];
+        let mut out = Vec::new();
+        for length in [127, 128, 255, 256] {
+            let good = value_of(&mut Rng::new(length as u64), rule, length).filter(|_| self.rows[row].permits(length));
+            let value = good.unwrap_or_else(|| vec![0x41; length]);
+            let forms = [Form::Fewest, Form::Long(1), Form::Long(2), Form::Long(3), Form::Long(4)];
+            out.extend(forms.map(|form| self.instead_of(row, &element(tag, &value, 0, form))));
+        }
+        out
+    }
+
     /// The row's element with a length that runs past the end.
     fn wrong_ends(&self, row: usize) -> Vec<Vec<u8>> {
-        let tag = self.rows[row].tag;
+        let (tag, form, value) = (self.rows[row].tag, self.forms.rows[row], &self.values[row]);
         let rest = self.elements(row + 1..self.rows.len());
-        let lengths = [1, 2, 200, 65_000].map(|more| self.up_to(row, &element(tag, &self.values[row], more)));
-        let to_the_end = self.up_to(row, &element(tag, &rest, 1));
-        let empty = self.up_to(row, &element(tag, &[], 1));
-        lengths.into_iter().chain([to_the_end, empty]).collect()
+        let more = [1, 2, 200, 65_000, 65_536, 1 << 24, 1 << 31];
+        let mut out: Vec<_> = more.map(|more| self.up_to(row, &element(tag, value, more, form))).to_vec();
+        // to a byte behind the end, and an empty one with nothing behind it
+        out.push(self.up_to(row, &element(tag, &rest, 1, form)));
+        out.push(self.up_to(row, &element(tag, &[], 1, form)));
+        for length in FAR {
+            out.push(self.instead_of(row, &[&tag_bytes(tag), length, value].concat()));
+        }
+        out
     }
 
     /// Bytes where a tag should be: mostly such as are no tag of the kind. 5F begins the tag of two bytes, so it stands before

@@ -1,9 +1,9 @@
 //! A deterministic generator of conforming and damaged inputs.
 
 use crate::batch::{Call, Record, BYTES_MAX, ROOM_MAX};
-use crate::card::{self, all_kinds, Rule, LAST_KIND};
+use crate::card::{self, all_kinds, Rule, LAST_KIND, ROWS_MAX};
 use crate::values::{self, fascn_encode, fascn_pack, fascn_values, is_date};
-use crate::{faults, trees, CONTAINER_MAX, NO_TAG, REPORT_MAX, SHEET_ROOM};
+use crate::{faults, lengths, trees, CONTAINER_MAX, NO_TAG, REPORT_MAX, SHEET_ROOM};
 
 /// splitmix64.
 pub struct Rng(u64);
@@ -53,6 +53,76 @@ impl Rng {
 }
 
 // ---------------------------------------------------------------------------------------------
+// The forms of lengths
+
+/// How a length is written.
+#[derive(Clone, Copy, Debug, PartialEq, Eq)]
+pub enum Form {
+    Fewest,
+    /// So many zeros in front of the fewest bytes, as far as 84 has room for them; none if the length is under 128. A container
+    /// may have its lengths in each of these forms.
+    Padded(usize),
+    /// One byte, the length modulo 128.
+    Short,
+    /// So many bytes behind the first, whether or not fewer would do or more are needed. Eight are the most.
+    Long(usize),
+    /// This byte and none after it.
+    Raw(u8),
+}
+
+/// The longest form, 84, has so many bytes behind the first.
+pub const LONGEST_FORM: usize = 4;
+
+/// How many bytes a length has behind its first one, in the fewest bytes.
+pub fn fewest(length: usize) -> usize {
+    match length {
+        0..=0x7F => 0,
+        0x80..=0xFF => 1,
+        0x100..=0xFFFF => 2,
+        0x1_0000..=0xFF_FFFF => 3,
+        _ => 4,
+    }
+}
+
+/// Writes a length, so much larger than the right one, in this form.
+pub fn put_length(out: &mut Vec<u8>, length: usize, delta: i64, form: Form) {
+    let length = (length as i64 + delta).max(0) as usize;
+    let bytes = match (form, fewest(length)) {
+        (Form::Raw(byte), _) => return out.push(byte),
+        (Form::Long(bytes), _) => bytes,
+        (Form::Short, _) | (_, 0) => return out.push(length as u8 & 0x7F),
+        (Form::Fewest, fewest) => fewest,
+        (Form::Padded(zeros), fewest) => (fewest + zeros).min(LONGEST_FORM),
+    };
+    out.push(0x80 + bytes as u8);
+    out.extend(&(length as u64).to_be_bytes()[8 - bytes..]);
+}
+
+/// How the lengths of a container are written: the outer one, and that of each row.
+#[derive(Clone, Debug)]
+pub struct Forms {
+    pub outer: Form,
+    pub rows: [Form; ROWS_MAX],
+}
+
+impl Forms {
+    pub fn all(form: Form) -> Forms {
+        Forms { outer: form, rows: [form; ROWS_MAX] }
+    }
+
+    /// Each length in a form that a container may have, mostly in a longer one than it needs.
+    pub fn mixed(rng: &mut Rng) -> Forms {
+        let mut forms = Forms::all(padded(rng));
+        forms.rows.fill_with(|| padded(rng));
+        forms
+    }
+}
+
+fn padded(rng: &mut Rng) -> Form {
+    Form::Padded(rng.size(0, LONGEST_FORM - 1))
+}
+
+// ---------------------------------------------------------------------------------------------
 // Conforming values
 
 /// A card's values by row of its kind's table; `None` for an absent element.
@@ -68,16 +138,14 @@ impl Card {
         card::kind_of(self.kind).expect("a card has a kind").rows
     }
 
-    fn loose(&self) -> Loose {
-        let items = self
-            .table()
-            .iter()
-            .zip(&self.rows)
-            .filter_map(|(row, value)| value.as_ref().map(|value| Item::new(row.tag, value.clone())))
+    fn loose(&self, forms: &Forms) -> Loose {
+        let rows = self.table().iter().zip(&forms.rows).zip(&self.rows);
+        let items = rows
+            .filter_map(|((row, &form), value)| Some(Item { tag: row.tag, form, delta: 0, value: value.clone()? }))
             .collect();
         Loose {
             outer: if self.kind == 3 { 0x7E } else { 0x53 },
-            form: Form::Fewest,
+            form: forms.outer,
             delta: 0,
             items,
             cut: 0,
@@ -86,8 +154,14 @@ impl Card {
         }
     }
 
+    /// The container, each length in the fewest bytes.
     pub fn container(&self) -> Vec<u8> {
-        self.loose().bytes()
+        self.container_in(&Forms::all(Form::Fewest))
+    }
+
+    /// The container with its lengths in these forms.
+    pub fn container_in(&self, forms: &Forms) -> Vec<u8> {
+        self.loose(forms).bytes()
     }
 
     pub fn sheet(&self) -> Vec<u8> {
@@ -380,28 +454,54 @@ pub fn certificate_kinds() -> Vec<u64> {
     all_kinds().filter(|&kind| first_rule(kind) == Some(Rule::Certificate)).collect()
 }
 
-/// A card of an endless kind whose container has exactly `total` bytes, 4,000 or more.
-pub fn conforming_of_size(rng: &mut Rng, kind: u64, total: usize) -> Card {
-    let mut card = conforming(rng, kind);
-    let row = endless_row(kind).expect("a kind with a row that can be long");
-    // with 2,000 bytes, and later with more, all lengths are written in three bytes
-    card.rows[row] = Some(vec![0; 2_000]);
-    let length = 2_000 + total - card.container().len();
-    card.rows[row] = Some(match card.table()[row].rule {
+/// A conforming value of exactly so many bytes for a row that can be long, if there is one.
+pub fn value_of(rng: &mut Rng, rule: Rule, length: usize) -> Option<Vec<u8>> {
+    let body = length.saturating_sub(values::HEADER_BYTES);
+    Some(match rule {
         Rule::Fingers => {
             let counts = [minutiae_count(rng), minutiae_count(rng)];
-            let data = minutiae(rng, counts);
-            biometric(rng, false, &data, length - values::HEADER_BYTES - data.len())
+            let record = minutiae(rng, counts);
+            let data = if record.len() < body { record } else { minutiae(rng, [0, 0]) };
+            // a byte of signature at least
+            let signature = body.checked_sub(data.len()).filter(|&signature| signature > 0)?;
+            biometric(rng, false, &data, signature)
         }
+        Rule::Face if body < 2 => return None,
         Rule::Face => {
-            let body = length - values::HEADER_BYTES;
             let signature = rng.size(1, body.min(20_000) - 1);
             let data = rng.bytes(body - signature);
             biometric(rng, true, &data, signature)
         }
-        Rule::Certificate => trees::certificate_of(rng, length).expect("a certificate of so many bytes"),
+        Rule::Certificate => trees::certificate_of(rng, length)?,
         _ => rng.bytes(length),
-    });
+    })
+}
+
+/// The kind's row that can have a length that is no longer written in one byte, if there is one.
+pub fn long_row(kind: u64) -> Option<usize> {
+    card::kind_of(kind)?.rows.iter().position(|row| row.permits(128))
+}
+
+/// A card whose long row, where its kind has one, has so many bytes, or as many as it may.
+pub fn lengthened(rng: &mut Rng, mut card: Card, length: usize) -> Card {
+    if let Some(at) = long_row(card.kind) {
+        let row = &card.table()[at];
+        if let Some(value) = value_of(rng, row.rule, length.min(row.longest)) {
+            card.rows[at] = Some(value);
+        }
+    }
+    card
+}
+
+/// A card of an endless kind whose container has exactly `total` bytes in these forms, 4,000 or more.
+pub fn conforming_of_size(rng: &mut Rng, kind: u64, total: usize, forms: &Forms) -> Card {
+    let mut card = conforming(rng, kind);
+    let row = endless_row(kind).expect("a kind with a row that can be long");
+    // with 2,000 bytes, and later with more, a length has as many bytes
+    card.rows[row] = Some(vec![0; 2_000]);
+    let length = 2_000 + total - card.container_in(forms).len();
+    card.rows[row] = value_of(rng, card.table()[row].rule, length);
+    assert!(card.rows[row].is_some(), "a value of {} bytes", length);
     card
 }
 
@@ -929,18 +1029,6 @@ fn damage_value(rng: &mut Rng, card: &mut Card) {
 // ---------------------------------------------------------------------------------------------
 // Damage to the form
 
-/// How a length is written.
-#[derive(Clone, Copy)]
-pub enum Form {
-    Fewest,
-    /// One byte, the length modulo 128.
-    Short,
-    /// 81 to 84 with as many bytes, whether or not fewer would do.
-    Long(usize),
-    /// This byte and none after it.
-    Raw(u8),
-}
-
 #[derive(Clone)]
 struct Item {
     tag: u16,
@@ -960,32 +1048,6 @@ struct Loose {
     cut: usize,
     content_tail: Vec<u8>,
     tail: Vec<u8>,
-}
-
-pub fn put_length(out: &mut Vec<u8>, length: usize, delta: i64, form: Form) {
-    let length = (length as i64 + delta).max(0) as usize;
-    let bytes = (length as u64).to_be_bytes();
-    let form = match (form, length) {
-        (Form::Fewest, 0..=127) => Form::Short,
-        (Form::Fewest, 128..=255) => Form::Long(1),
-        (Form::Fewest, 256..=65_535) => Form::Long(2),
-        (Form::Fewest, _) => Form::Long(3),
-        (form, _) => form,
-    };
-    match form {
-        Form::Short | Form::Fewest => out.push(length as u8 & 0x7F),
-        Form::Long(n) => {
-            out.push(0x80 + n as u8);
-            out.extend(&bytes[8 - n..]);
-        }
-        Form::Raw(byte) => out.push(byte),
-    }
-}
-
-impl Item {
-    fn new(tag: u16, value: Vec<u8>) -> Item {
-        Item { tag, form: Form::Fewest, delta: 0, value }
-    }
 }
 
 impl Loose {
@@ -1026,24 +1088,29 @@ fn any_tag(rng: &mut Rng, kind: u64) -> u16 {
     }
 }
 
+/// A form that a length may have, or not.
 pub fn any_form(rng: &mut Rng) -> Form {
-    match rng.below(12) {
+    match rng.below(16) {
         0..=2 => Form::Long(1),
         3..=5 => Form::Long(2),
-        6 => Form::Long(3),
-        7 => Form::Long(4),
-        8 => Form::Short,
-        9 => Form::Raw(0x80),
-        10 => Form::Raw(rng.pick(&[0x81, 0x82, 0x83, 0x84, 0x85, 0xFF, 0x7F])),
+        6 | 7 => Form::Long(3),
+        8 | 9 => Form::Long(4),
+        10 => Form::Long(rng.size(5, 8)),
+        11 | 12 => Form::Short,
+        13 => Form::Raw(0x80),
+        14 => Form::Raw(rng.pick(&[0x81, 0x82, 0x83, 0x84, 0x85, 0xFF, 0x7F])),
         _ => Form::Raw(rng.byte()),
     }
 }
 
 pub fn any_delta(rng: &mut Rng) -> i64 {
-    match rng.below(6) {
-        0 | 1 => 1,
-        2 | 3 => -1,
-        4 => rng.pick(&[2, -2, 3, 100, 128, 256, 65_535, -20]),
+    match rng.below(12) {
+        0..=3 => 1,
+        4..=7 => -1,
+        8 => rng.pick(&[2, -2, 3, 100, 128, 256, 65_535, -20]),
+        // right in so many bits only, or with a sum that is inside the container again
+        9 => rng.pick(&[256, 65_536, 1 << 24, 1 << 31]),
+        10 => (1 << 32) - rng.below(600) as i64,
         _ => rng.below(40) as i64 - 20,
     }
 }
@@ -1067,7 +1134,7 @@ fn damage_form(rng: &mut Rng, loose: &mut Loose, kind: u64) {
         7 | 8 if count > 0 => loose.items[at].tag = any_tag(rng, kind),
         9 | 10 => {
             let length = rng.pick(&[0, 0, 1, 2, 8, 15, 16]);
-            let item = Item::new(any_tag(rng, kind), rng.bytes(length));
+            let item = Item { tag: any_tag(rng, kind), form: Form::Fewest, delta: 0, value: rng.bytes(length) };
             let to = rng.size(0, loose.items.len());
             loose.items.insert(to, item);
         }
@@ -1095,13 +1162,20 @@ fn damage_form(rng: &mut Rng, loose: &mut Loose, kind: u64) {
                 &[0x82],
                 &[0x82, 0x01],
                 &[0x83],
+                &[0x83, 0x00, 0x01],
+                &[0x84, 0x00],
+                &[0x84, 0x00, 0x00, 0x01],
                 &[0x80],
                 &[0x01],
                 &[0x05, 0x00],
                 &[0x81, 0x80],
                 &[0x82, 0x01, 0x00],
+                &[0x83, 0x01, 0x00, 0x00],
+                &[0x84, 0xFF, 0xFF, 0xFF, 0xFF],
                 &[0x81, 0x7F],
+                &[0x82, 0x00, 0x00],
                 &[0x84, 0, 0, 0, 0],
+                &[0x85, 0, 0, 0, 0, 0x80],
             ]);
             loose.content_tail.extend(more);
             if kind == 3 && rng.one_in(2) {
@@ -1139,7 +1213,7 @@ pub fn damage_bytes(rng: &mut Rng, bytes: &mut Vec<u8>) {
     match rng.below(12) {
         0..=3 => bytes[at] ^= 1 << rng.below(8),
         4 | 5 => bytes[at] = rng.byte(),
-        6 => bytes[at] = rng.pick(&[0x00, 0x01, 0x7F, 0x80, 0x81, 0x82, 0xFE, 0xFF]),
+        6 => bytes[at] = rng.pick(&[0x00, 0x01, 0x7F, 0x80, 0x81, 0x82, 0x83, 0x84, 0x85, 0xFE, 0xFF]),
         7 | 8 => bytes.truncate(at),
         9 => {
             bytes.remove(at);
@@ -1403,9 +1477,23 @@ fn random_record(rng: &mut Rng) -> Record {
     record
 }
 
-/// A container, conforming or damaged.
+/// A length at which the form of lengths changes, or one of those that follow.
+fn edge_length(rng: &mut Rng) -> usize {
+    match rng.below(4) {
+        0 => rng.size(128, 600),
+        _ => rng.pick(&[126, 127, 128, 129, 200, 254, 255, 256, 257]),
+    }
+}
+
+/// A container, conforming or damaged. One in three has its lengths in any forms, and mostly one that can have several.
 fn any_container(rng: &mut Rng, kind: u64) -> (Card, Vec<u8>) {
     let mut card = conforming(rng, kind);
+    let mut forms = Forms::all(Form::Fewest);
+    if rng.one_in(3) {
+        forms = Forms::mixed(rng);
+        let length = edge_length(rng);
+        card = lengthened(rng, card, length);
+    }
     let plan = rng.below(20);
     if (4..=11).contains(&plan) {
         damage_value(rng, &mut card);
@@ -1413,7 +1501,7 @@ fn any_container(rng: &mut Rng, kind: u64) -> (Card, Vec<u8>) {
             damage_value(rng, &mut card);
         }
     }
-    let mut loose = card.loose();
+    let mut loose = card.loose(&forms);
     if (11..=16).contains(&plan) {
         damage_form(rng, &mut loose, kind);
         while rng.one_in(4) {
@@ -1462,6 +1550,10 @@ fn aim(rng: &mut Rng, record: &mut Record, card: &Card) {
 fn write_record(rng: &mut Rng) -> Record {
     let kind = any_kind(rng);
     let mut card = conforming(rng, kind);
+    if rng.one_in(6) {
+        let length = edge_length(rng);
+        card = lengthened(rng, card, length);
+    }
     let plan = rng.below(20);
     if plan >= 12 {
         damage_value(rng, &mut card);
@@ -1488,11 +1580,12 @@ fn big_record(rng: &mut Rng) -> Record {
         8 => rng.size(20_000, CONTAINER_MAX),
         _ => rng.size(CONTAINER_MAX, 65_000),
     };
-    let card = conforming_of_size(rng, kind, total);
+    let forms = if rng.one_in(2) { Forms::mixed(rng) } else { Forms::all(Form::Fewest) };
+    let card = conforming_of_size(rng, kind, total, &forms);
     if rng.one_in(3) {
-        return big_write_record(rng, card, total);
+        return big_write_record(rng, card);
     }
-    let mut bytes = card.container();
+    let mut bytes = card.container_in(&forms);
     if rng.one_in(3) {
         match rng.below(3) {
             0 => damage_front(rng, &mut bytes),
@@ -1505,8 +1598,9 @@ fn big_record(rng: &mut Rng) -> Record {
     record
 }
 
-/// The sheet of a card whose container has `total` bytes, to be written.
-fn big_write_record(rng: &mut Rng, mut card: Card, total: usize) -> Record {
+/// The sheet of such a card, to be written.
+fn big_write_record(rng: &mut Rng, mut card: Card) -> Record {
+    let total = card.container().len();
     if rng.one_in(12) {
         // The longest section that a sheet can hold.
         let row = endless_row(card.kind).expect("it has such a row");
@@ -1638,7 +1732,7 @@ pub fn small(kind: u64) -> Vec<u8> {
 }
 
 /// A card with a certificate, and with so many bytes of 72 if it has any.
-fn certificate_card(kind: u64, certificate: Vec<u8>, extra: Option<usize>) -> Card {
+pub fn certificate_card(kind: u64, certificate: Vec<u8>, extra: Option<usize>) -> Card {
     let rows = vec![Some(certificate), Some(vec![0]), extra.map(|length| vec![0x41; length]), Some(Vec::new())];
     Card { kind, today: EXAMPLE_DAY, rows }
 }
@@ -1763,14 +1857,21 @@ fn fixed_records() -> Vec<Record> {
     }
     out.extend(fixed_certificates());
     out.extend(faults::records());
+    out.extend(lengths::records());
     out
+}
+
+/// A SECURITY of few bytes with two lengths in their longest form.
+pub fn small_in_longest_forms() -> Vec<u8> {
+    let rows = vec![Some(vec![7]), Some(vec![9; 128]), Some(Vec::new())];
+    Card { kind: 5, today: EXAMPLE_DAY, rows }.container_in(&Forms::all(Form::Padded(LONGEST_FORM)))
 }
 
 /// Every container that differs from a small conforming one in one byte, and itself: checks, with a room that is as long as the
 /// sheet of that one.
 pub fn sweep<F: FnMut(&Record)>(mut take: F) {
-    for kind in all_kinds() {
-        let container = small(kind);
+    let small = all_kinds().map(|kind| (kind, small(kind)));
+    for (kind, container) in small.chain([(5, small_in_longest_forms())]) {
         let room = sheet_length(kind, &container);
         let mut record = Record { room, fill: 0xA5, ..plain(Call::Check, kind, container.clone()) };
         for (at, &original) in container.iter().enumerate() {

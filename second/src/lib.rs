@@ -8,6 +8,7 @@ pub mod card;
 pub mod der;
 pub mod faults;
 pub mod generate;
+pub mod lengths;
 pub mod named;
 pub mod report;
 pub mod samples;

@@ -8,6 +8,7 @@ use crate::samples::{card, ccc, certificate, chuid, discovery, face, fingers, pr
 use crate::samples::{COMPRESSED, P256, RSA, UUID};
 use crate::{CONTAINER_MAX, SHEET_ROOM};
 
+mod lengths;
 mod tags;
 
 /// A call and its answer.
@@ -28,6 +29,7 @@ pub fn all() -> Vec<Group> {
         rooms(),
         refused_sheets(),
         tags::all(),
+        lengths::all(),
         views(),
         reports(),
     ]
@@ -561,12 +563,12 @@ fn broken() -> Vec<Group> {
             ],
         ),
         (
-            "lengths 81 7F, 82 00 FF, 80 and 83 of an element",
+            "lengths 81 7F, 82 00 7F, 80 and 85 of an element",
             vec![
                 with_length(&[0x81, 0x7F], 127),
-                with_length(&[0x82, 0x00, 0xFF], 127),
+                with_length(&[0x82, 0x00, 0x7F], 127),
                 with_length(&[0x80], 127),
-                with_length(&[0x83, 0, 0], 128),
+                with_length(&[0x85, 0, 0, 0, 0], 128),
             ],
         ),
         (
@@ -639,7 +641,8 @@ fn worked_cases() -> Group {
     let sheet =
         [&[0, 0, 0, 26], &EXAMPLE_FASCN[..], &[0, 0, 0, 0, 0, 17], &GUID, &[0, 9], EXPIRES, &[0, 0, 0, 1, 0, 1]]
             .concat();
-    let long_form = [&[0x53, 0x82, 1, 5], &head(&GUID)[..], &[0x3E, 0x82, 0, 200], &[0xAA; 200], &[0xFE, 0]].concat();
+    let longer = [&[0x53, 0x82, 1, 5], &head(&GUID)[..], &[0x3E, 0x82, 0, 200], &[0xAA; 200], &[0xFE, 0]].concat();
+    let longer_sheet = [&sheet[..sheet.len() - 4], &[0, 201], &[0xAA; 200], &[0, 1]].concat();
     let told = "CARD 4\nkind CHUID\nbytes 61\ntoday 20260301\nverdict 18 29 34\nELEMENTS 0\nOPEN 0\n";
     (
         "the worked cases of 2026-13",
@@ -655,7 +658,7 @@ fn worked_cases() -> Group {
             check_into(2, &[0; 32_769], 0, Err(alone(4))),
             check_into(2, &[], 0, Err(alone(10))),
             check_into(3, &EXAMPLE_DISCOVERY, 17, Ok(&DISCOVERY_SHEET)),
-            check_into(2, &long_form, 300, Err((11, 59, Some(0x3E)))),
+            check_into(2, &longer, 300, Ok(&longer_sheet)),
             view(2, &good, 0x30, Ok((4, 25))),
             report(2, &bad, 512, Ok(told)),
         ],

@@ -1,6 +1,7 @@
-//! The samples: for each kind a container that conforms on 1 March 2026, and one that breaks a rule in an instructive way.
+//! The samples: for each kind a container that conforms on 1 March 2026, and one that breaks a rule in an instructive way. One more
+//! conforms with lengths in longer forms.
 
-use crate::generate::{Card, EXAMPLE_DAY, EXAMPLE_FASCN};
+use crate::generate::{Card, Form, Forms, EXAMPLE_DAY, EXAMPLE_FASCN};
 use crate::{report, trees, REPORT_MAX};
 
 pub struct Sample {
@@ -104,6 +105,13 @@ pub fn wrong_fascn() -> [u8; 25] {
     fascn
 }
 
+/// A CHUID with 200 bytes of 3E. That length is written as 84 00 00 00 C8, and the outer one as 83 00 01 07.
+fn chuid_in_longer_forms() -> Sample {
+    let card = chuid(&EXAMPLE_FASCN, b"20300131", &[0xAA; 200]);
+    let forms = Forms { outer: Form::Padded(1), ..Forms::all(Form::Padded(3)) };
+    Sample { kind: card.kind, name: "chuid-longer", container: card.container_in(&forms) }
+}
+
 pub fn all() -> Vec<Sample> {
     let sample = |name, card: Card| Sample { kind: card.kind, name, container: card.container() };
     vec![
@@ -112,6 +120,7 @@ pub fn all() -> Vec<Sample> {
         sample("ccc-broken", ccc(0x11)),
         sample("chuid", chuid(&EXAMPLE_FASCN, b"20300131", &[])),
         sample("chuid-broken", chuid(&wrong_fascn(), b"20300131", &[])),
+        chuid_in_longer_forms(),
         sample("discovery", discovery([0x40, 0])),
         // a policy of 60 hex asks for 10 or 20 in the second byte
         sample("discovery-broken", discovery([0x60, 0])),

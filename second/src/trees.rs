@@ -1,7 +1,7 @@
 //! Certificates for the generator: trees of DER items, as they should be and damaged.
 
 use crate::der;
-use crate::generate::{any_delta, any_form, damage_bytes, put_length, Form, Rng};
+use crate::generate::{any_delta, any_form, damage_bytes, fewest, put_length, Form, Rng};
 use crate::values::CERTIFICATE_LEVELS;
 
 /// An item in pieces.
@@ -115,21 +115,12 @@ impl Tree {
     /// lengths around it are right.
     pub fn with_longer_length(&self, number: usize) -> Vec<Vec<u8>> {
         let mut tree = self.clone();
-        let fewest = long_form(tree.item(number, 1).0.content().len());
+        let needed = fewest(tree.item(number, 1).0.content().len());
         let longer = |bytes| {
             tree.item(number, 1).0.form = Form::Long(bytes);
             tree.bytes()
         };
-        (fewest + 1..=4).map(longer).collect()
-    }
-}
-
-/// How many bytes a length has behind its first one, in the fewest bytes.
-fn long_form(length: usize) -> usize {
-    match length {
-        0..=0x7F => 0,
-        0x80..=0xFF => 1,
-        _ => 2,
+        (needed + 1..=4).map(longer).collect()
     }
 }
 
@@ -278,7 +269,7 @@ fn shaped(lengths: [usize; 6], mut value: impl FnMut(u8, usize) -> Tree) -> Tree
 
 /// The content's bytes in an item that has so many in all; 130 and 259 are the lengths that no item has.
 fn content_of(total: usize) -> Option<usize> {
-    (2..=4).filter_map(|head| total.checked_sub(head).filter(|&content| 2 + long_form(content) == head)).next()
+    (2..=4).filter_map(|head| total.checked_sub(head).filter(|&content| 2 + fewest(content) == head)).next()
 }
 
 /// An item of exactly so many bytes: one value, items of two bytes, or an item around another.
@@ -412,7 +403,7 @@ fn damage_item(rng: &mut Rng, item: &mut Tree) {
         1 => item.tag = rng.pick(&[0x1F, 0x3F, 0x5F, 0x7F, 0x9F, 0xBF, 0xDF, 0xFF, 0x1E, 0x3E]),
         // what was opened is not any more, or the other way round
         2 => item.tag ^= CONSTRUCTED,
-        3 => item.form = Form::Long(long_form(item.content().len()) + rng.size(1, 2)),
+        3 => item.form = Form::Long(fewest(item.content().len()) + rng.size(1, 2)),
         4 => item.form = any_form(rng),
         5 => {
             // a length that is not definite, and the end that would go with it
@@ -450,7 +441,7 @@ pub fn edges() -> Vec<Vec<u8>> {
         out.push(long.bytes());
         out.extend((0..long.count()).flat_map(|number| long.with_longer_length(number)));
         // and an outermost item with a content of as many bytes
-        out.extend(certificate_of_pairs(2 + long_form(length) + length));
+        out.extend(certificate_of_pairs(2 + fewest(length) + length));
     }
     for parts in 0..=5 {
         for tag in [SEQUENCE, 0x31, 0x24, 0x70] {

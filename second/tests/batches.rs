@@ -12,9 +12,9 @@ fn batch(seed: u64, count: usize) -> Vec<Record> {
 
 #[test]
 fn batches_are_fixed() {
-    assert!(batch(7, 30_000) == batch(7, 30_000));
-    assert!(batch(7, 30_000) != batch(8, 30_000));
-    assert!(batch(7, 30_000).starts_with(&batch(7, 20_000)));
+    assert!(batch(7, 50_000) == batch(7, 50_000));
+    assert!(batch(7, 50_000) != batch(8, 50_000));
+    assert!(batch(7, 50_000).starts_with(&batch(7, 45_000)));
 }
 
 #[test]

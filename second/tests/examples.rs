@@ -78,10 +78,11 @@ fn p3_to_p8_lengths() {
     assert_eq!(length_at(&[0x7F]), Some((127, 1)));
     assert_eq!(length_at(&[0x81, 0x7F]), None);
     assert_eq!(length_at(&[0x81, 0x80]), Some((128, 2)));
-    assert_eq!(length_at(&[0x82, 0x00, 0xFF]), None);
+    // P6 as 2026-01 has it
+    assert_eq!(length_at(&[0x82, 0x00, 0xFF]), Some((255, 3)));
     assert_eq!(length_at(&[0x82, 0x01, 0x00]), Some((256, 3)));
     assert_eq!(length_at(&[0x80]), None);
-    for cut in [&[][..], &[0x81], &[0x82], &[0x82, 0x01], &[0x83, 0, 1, 0], &[0x84, 0, 0, 1, 0], &[0xFF]] {
+    for cut in [&[][..], &[0x81], &[0x82], &[0x82, 0x01], &[0x83, 0, 1], &[0x84, 0, 0, 1], &[0xFF]] {
         assert_eq!(length_at(cut), None);
     }
 }

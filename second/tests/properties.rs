@@ -2,11 +2,12 @@
 
 use second::batch::Call;
 use second::card::{self, all_kinds, CONFORMS};
-use second::generate::{conforming, conforming_of_size, endless_kinds, personal_twin, small, Inputs, Rng, EXAMPLE_DAY};
+use second::generate::{conforming, conforming_of_size, endless_kinds, personal_twin, small};
+use second::generate::{Form, Forms, Inputs, Rng, EXAMPLE_DAY};
 use second::{check, report, view, write, Checked, SHEET_ROOM};
 
 mod common;
-use common::verdict;
+use common::{in_fewest_bytes, verdict};
 
 const ROUNDS: usize = 3_000;
 
@@ -85,10 +86,11 @@ fn round_trips() {
 #[test]
 fn limits() {
     let mut rng = Rng::new(2);
+    let fewest = Forms::all(Form::Fewest);
     assert_eq!(endless_kinds(), [2, 6, 7, 8, 9, 10, 11]);
     for kind in endless_kinds() {
         for _ in 0..20 {
-            let card = conforming_of_size(&mut rng, kind, 32_768);
+            let card = conforming_of_size(&mut rng, kind, 32_768, &fewest);
             let (container, sheet) = (card.container(), card.sheet());
             assert_eq!(container.len(), 32_768);
             assert_eq!(verdict(kind, card.today, &container), CONFORMS);
@@ -102,7 +104,7 @@ fn limits() {
             assert_eq!(check_into(kind, card.today, &container, sheet.len() - 1), too_short());
             assert_eq!(write(kind, card.today, &sheet, &mut [0xAA; 10]), ((3, 0, None), 0));
 
-            let card = conforming_of_size(&mut rng, kind, 32_769);
+            let card = conforming_of_size(&mut rng, kind, 32_769, &fewest);
             let (container, sheet) = (card.container(), card.sheet());
             assert_eq!(container.len(), 32_769);
             assert_eq!(verdict(kind, card.today, &container), (4, 0, None));
@@ -182,6 +184,7 @@ fn reports_show_open_values() {
 #[test]
 fn calls_agree() {
     let mut inputs = Inputs::new(5);
+    let mut longer = 0;
     for _ in 0..80_000 {
         let record = inputs.record();
         let (kind, today, bytes) = (record.kind, record.today, &record.bytes[..]);
@@ -191,9 +194,11 @@ fn calls_agree() {
         let (Checked { number, place, tag, .. }, sheet) = check_into(kind, today, bytes, bytes.len() + 6);
         assert_eq!(view(kind, today, bytes, 0).0, if number == 0 { (6, 0, None) } else { (number, place, tag) });
         if number == 0 {
-            let mut room = vec![0xAA; bytes.len()];
-            assert_eq!(write(kind, today, &sheet, &mut room), (CONFORMS, bytes.len() as u64));
-            assert_eq!(room, bytes);
+            let fewest = in_fewest_bytes(bytes);
+            longer += usize::from(fewest != bytes);
+            let mut room = vec![0xAA; fewest.len()];
+            assert_eq!(write(kind, today, &sheet, &mut room), (CONFORMS, fewest.len() as u64));
+            assert_eq!(room, fewest);
         }
         let mut room = vec![0xAA; 600];
         let (report_number, length) = report(kind, today, bytes, &mut room);
@@ -213,6 +218,7 @@ fn calls_agree() {
             assert!(room.iter().all(|&byte| byte == 0));
         }
     }
+    assert!(longer > 3_000, "{} in longer forms", longer);
 }
 
 /// The verdict is the same in every one of these rooms. Beside a 0 there is a 3 exactly where the room is shorter than the sheet,
