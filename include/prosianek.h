@@ -69,7 +69,7 @@ enum prosianek_number {
     PROSIANEK_LONG_NUMBER = 7,      // FASC-N encoding: a number has too many digits
     PROSIANEK_LONG_REPORT = 8,      // a report over 512 bytes: it is proved that there is none
     PROSIANEK_OUTER_TAG = 10,       // the outer tag is missing or wrong
-    PROSIANEK_LENGTH_FORM = 11,     // a length is cut short or not in the permitted form
+    PROSIANEK_LENGTH_FORM = 11,     // a length is cut short or in no permitted form
     PROSIANEK_OVERRUN = 12,         // a value runs past its enclosure, or the outer end is not the container's end
     PROSIANEK_UNKNOWN_TAG = 13,     // the tag is not in the kind's table
     PROSIANEK_TAG_ORDER = 14,       // the row is that of the element before, or an earlier one
@@ -114,7 +114,8 @@ enum prosianek_number {
 uint64_t prosianek_check(uint64_t kind, uint64_t today, const uint8_t *container, size_t size, uint8_t *sheet,
                          size_t sheet_size, uint64_t *place, uint64_t *tag, uint64_t *room, uint64_t *length);
 
-// The container of a value sheet. A sheet that prosianek_check gave is written back byte for byte.
+// The container of a value sheet, each length in the fewest bytes. Of a sheet that prosianek_check gave it is the container that was
+// checked, byte for byte, where that was in the fewest bytes too; else a shorter one, with the same elements.
 //   sheet    the sheet, size its bytes.
 //   container  the lent room, room its size.
 //   place    where the first broken rule is: the offset in the sheet of the row's count; 0 for 1 to 5 and on a success.

@@ -21,7 +21,7 @@ Values = List (Option (List ℕ))
 abbrev pub tagBytes : ℕ → List ℕ
 tagBytes t = cond (ltb t 256) (t ∷ []) (t / 256 ∷ t % 256 ∷ [])
 
--- 2026-01: the bytes that spell each length: that of a row's value, no bytes where the row has none
+-- 2026-01: for each row of a table the bytes that spell the length of its value, none where it has no value
 abbrev pub Spellings : Type 0
 Spellings = List (List ℕ)
 
@@ -37,7 +37,7 @@ spelled (r ∷ rs) (some v ∷ vs) (p ∷ ps) = tagBytes (r .tag) ++ (p ++ (v ++
 abbrev pub outerTag : ℕ → ℕ
 outerTag kind = cond (eqb kind 3) 0x7E 0x53
 
--- the forms of a container's lengths: the bytes that spell the outer one, and those of its rows
+-- the forms of a container's lengths: the bytes that spell the outer one, and those that spell each row's
 pub record Forms : Type 0 where
   pub outer : List ℕ
   pub rows : Spellings
@@ -46,7 +46,7 @@ pub record Forms : Type 0 where
 abbrev pub containerIn : ℕ → Values → Forms → List ℕ
 containerIn kind vs fs = outerTag kind ∷ (fs .outer ++ spelled (table kind) vs (fs .rows))
 
--- "Writing keeps the fewest bytes."
+-- "Writing keeps the fewest bytes": the spellings of some values, their elements, and the forms and the bytes of the container that is written
 abbrev pub fewest : Values → Spellings
 fewest [] = []
 fewest (none ∷ vs) = [] ∷ fewest vs
@@ -70,7 +70,7 @@ abbrev pub has : ℕ → Table → Bool
 has t [] = false
 has t (r ∷ rs) = cond (eqb t (r .tag)) true (has t rs)
 
--- ---- which values are allowed
+-- ---- which values and forms are allowed
 
 -- a value has a permitted length and keeps its row's rule
 pub record Fits (today : ℕ) (r : Entry) (v : List ℕ) : Type 0 where
@@ -85,7 +85,7 @@ Allowed today (r ∷ rs) [] = ⊥
 Allowed today (r ∷ rs) (none ∷ vs) = (r .optional ≡ true) × Allowed today rs vs
 Allowed today (r ∷ rs) (some v ∷ vs) = Fits today r v × Allowed today rs vs
 
--- each row's spelling is one of the length of its value, or there is none
+-- "in some allowed length forms": the bytes of each row spell the length of its value; a row without a value has none
 abbrev pub Formed : Values → Spellings → Type 0
 Formed [] [] = Unit {0}
 Formed [] (p ∷ ps) = ⊥

@@ -1,15 +1,13 @@
 -- What `lengthAt` is, by the tests that the code makes: a law for each way out. And the code's answer, taken back. Assumes nothing.
-use Prim.Native.Nat.{ℕ, suc, _+_, _-_, _<_, _≤_}
+use Prim.Native.Nat.{ℕ, suc, _+_, _-_, _^_, _<_, _≤_}
 use mathlib.Core.Path.{_≡_, refl, ap}
-use mathlib.Core.Bool.{false, _&&_}
 use mathlib.Core.List.{List}
 use mathlib.Core.Option.{Option, none, some}
+use native.Mathlib.Nat.{pow-le-pow-right}
 use native.Mathlib.Omega.{arith}
-use lib.Dec.{leb}
 use lib.ListN.{length, getD, drop, drop-of-length-le, length-drop}
-use borrow.Author.Tests.{lt-ltb, le-ltb, le-leb, leb-true}
+use borrow.Author.Tests.{lt-ltb, le-ltb, le-leb, lt-leb}
 use Rattle.laws.specs.Layout.{field}
-use Rattle.laws.proofs.Cases.{and-true, not-so}
 use Rattle.laws.proofs.Turns.{from-one}
 use Rattle.lengths.specs.Length.{Spelt, afterCount, readLength, told, lengthAt}
 use Rattle.lengths.specs.declared.Length.the-variants.{Is, Bad}
@@ -24,18 +22,15 @@ module _ (s : List ℕ) (at : ℕ) where
     unfolding lengthAt readLength
     one a e l = rw (from-one s at h, ← e) (simp (lt-ltb _ _ l))
 
-    pub other : 128 ≤ getD s at 0 → (0x81 ≤ getD s at 0 → getD s at 0 ≤ 0x84 → ⊥) → Bad ≡ lengthAt at (drop at s)
+    pub other : 0x84 < getD s at 0 → Bad ≡ lengthAt at (drop at s)
     unfolding lengthAt readLength
-    other l n =
-        let z : (leb 0x81 (getD s at 0) && leb (getD s at 0) 0x84) ≡ false =
-        not-so _ (λ t. let c = and-true (leb 0x81 (getD s at 0)) _ t in n (leb-true _ _ (c .0)) (leb-true _ _ (c .1))) in
-        rw (from-one s at h) (simp (le-ltb _ _ l, z))
+    other l = rw (from-one s at h) (simp (le-ltb (getD s at 0) 128 (omega arith), lt-leb _ _ l))
 
-    -- 81 to 84: as many bytes as they count
-    module _ (l : 0x81 ≤ getD s at 0) (m : getD s at 0 ≤ 0x84) (count : ℕ) (e : count ≡ getD s at 0 - 0x80) where
+    -- up to 84: as many bytes as it counts
+    module _ (l : 128 ≤ getD s at 0) (m : getD s at 0 ≤ 0x84) (count : ℕ) (e : count ≡ getD s at 0 - 0x80) where
       counts : lengthAt at (drop at s) ≡ told at (afterCount count (drop (at + 1) s))
       unfolding lengthAt readLength
-      counts = rw (from-one s at h) (simp (le-ltb (getD s at 0) 128 (omega arith), le-leb _ _ l, le-leb _ _ m, ← e))
+      counts = rw (from-one s at h) (simp (le-ltb (getD s at 0) 128 l, le-leb _ _ m, ← e))
 
       pub short : length s ≤ at + count → Bad ≡ lengthAt at (drop at s)
       short k = let z : length (drop (at + 1) s) < count = rw length-drop (omega arith) in rw counts (simp (lt-ltb _ _ z))
@@ -52,6 +47,10 @@ module _ (s : List ℕ) (at : ℕ) where
             let g′ : 128 ≤ field s (at + 1) count = rw (← f) g in
             let z : at + 1 + count ≡ at + suc count = omega arith in
             rw (counts, z) (simp (le-ltb _ _ enough, le-ltb _ _ g′) (ap (λ (x : ℕ). Is x (at + suc count)) f))
+
+-- no more than four bytes hold
+pub four-bytes : (n k : ℕ) → k ≤ 4 → n < 256 ^ k → n < 4294967296
+four-bytes n k h l = let m : 256 ^ k ≤ 256 ^ 4 = pow-le-pow-right (omega arith) h in omega (arith, l, m)
 
 -- ---- the code's answer, taken back
 

@@ -2,7 +2,7 @@
 use Prim.Native.Nat.{ℕ, zero, suc, _+_, _-_, _/_, _%_, _^_, _<_, _≤_}
 use mathlib.Core.Path.{_≡_, refl, sym, ap, _∙_}
 use mathlib.Core.Logic.{_↔_, inl, inr}
-use mathlib.Core.Bool.{true, false, cond, _&&_}
+use mathlib.Core.Bool.{true, false, cond}
 use mathlib.Core.List.{List, [], _∷_, _++_}
 use mathlib.Core.Option.{Option, none, some}
 use native.Mathlib.Omega.{arith}
@@ -15,7 +15,7 @@ use Rattle.laws.specs.Bytes.{Bytes}
 use Rattle.laws.specs.Digits.{value, digits}
 use Rattle.laws.specs.Layout.{number}
 use Rattle.laws.proofs.Bases.{below-take, value-lt, length-digits, below-digits, value-digits, digits-read}
-use Rattle.laws.proofs.Cases.{which, and-true, and-is, no-some}
+use Rattle.laws.proofs.Cases.{which, no-some}
 use Rattle.lengths.specs.Length.{Spells, one-byte, counted, lengthBytes, Spelt, afterCount, readLength}
 use Rattle.lengths.proofs.Writing.{in-one, in-two, in-three, by-size}
 
@@ -24,16 +24,16 @@ bytes = omega arith
 
 -- ---- from what is spelt to what is read
 
--- 80 and a count of one to four
-counts : (k : ℕ) → 1 ≤ k → k ≤ 4 → (ltb (0x80 + k) 128 ≡ false) × ((leb 0x81 (0x80 + k) && leb (0x80 + k) 0x84) ≡ true) × (0x80 + k - 0x80 ≡ k)
-counts k l m = (le-ltb (0x80 + k) 128 (omega arith), and-is _ _ (le-leb 0x81 (0x80 + k) (omega arith)) (le-leb (0x80 + k) 0x84 (omega arith)), omega arith)
+-- 80 and a count of up to four
+counts : (k : ℕ) → k ≤ 4 → (ltb (0x80 + k) 128 ≡ false) × (leb (0x80 + k) 0x84 ≡ true) × (0x80 + k - 0x80 ≡ k)
+counts k m = (le-ltb (0x80 + k) 128 (omega arith), le-leb (0x80 + k) 0x84 (omega arith), omega arith)
 
 -- bytes that spell a number are read as that number, whatever follows
 pub reads : (p : List ℕ) (n : ℕ) (r : List ℕ) → Spells p n → readLength (p ++ r) ≡ some (record { number = n; width = length p })
 unfolding readLength
 reads p n r (one-byte h e) = rw (e, lt-ltb n 128 h)
 reads p n r (counted k a b h l e) =
-    let (x, y, z) = counts k a b in
+    let (x, y, z) = counts k b in
     let ds = number k n in
     let w : length ds ≡ k = length-digits 256 bytes k n in
     let t : take k (ds ++ r) ≡ ds = rw w at (take-append-seam ds r) in
@@ -56,8 +56,18 @@ spelt-some p n (counted k a b h l e) = rw e (omega arith)
 abbrev Stands : Spelt → List ℕ → Type 0
 Stands l s = (l .width ≤ length s) × Spells (take (l .width) s) (l .number)
 
-is-counted : (k : ℕ) (r : List ℕ) → 1 ≤ k → k ≤ 4 → Bytes r → (l : Spelt) → afterCount k r ≡ some l → Stands l ((0x80 + k) ∷ r)
-is-counted k r a b y l e =
+-- a number over 127 takes a byte, and one over 255 two
+some-byte : (k n : ℕ) → 128 ≤ n → n < 256 ^ k → 1 ≤ k
+some-byte zero n g l = absurd (omega arith)
+some-byte (suc k) n g l = omega arith
+
+two-bytes : (k n : ℕ) → 256 ≤ n → n < 256 ^ k → 2 ≤ k
+two-bytes zero n g l = absurd (omega arith)
+two-bytes (suc zero) n g l = absurd (omega arith)
+two-bytes (suc (suc k)) n g l = omega arith
+
+is-counted : (k : ℕ) (r : List ℕ) → k ≤ 4 → Bytes r → (l : Spelt) → afterCount k r ≡ some l → Stands l ((0x80 + k) ∷ r)
+is-counted k r b y l e =
     elim (decLt (length r) k) [
       | yes h ↦ absurd (no-some (rw (lt-ltb _ _ h) at e))
       | no h ↦
@@ -72,7 +82,7 @@ is-counted k r a b y l e =
                 let y′ : Bytes (take k r) = below-take 256 k r y in
                 let v : n < 256 ^ k = rw w at (value-lt 256 bytes (take k r) y′) in
                 let d : take k r ≡ number k n = sym (rw w at (digits-read 256 bytes 0 (take k r) y′)) in
-                rw (← q) (omega arith, counted k a b g′ v (ap (λ (x : List ℕ). (0x80 + k) ∷ x) d))
+                rw (← q) (omega arith, counted k (some-byte k n g′ v) b g′ v (ap (λ (x : List ℕ). (0x80 + k) ∷ x) d))
           ]
     ]
 
@@ -86,14 +96,12 @@ read-is (a ∷ r) b l e =
           let q : record { number = a; width = 1 } ≡ l = cc in
           rw (← q) (omega arith, one-byte h refl)
       | no h ↦
-          let e′ : cond (leb 0x81 a && leb a 0x84) (afterCount (a - 0x80) r) none ≡ some l = rw (le-ltb a 128 (omega arith)) at e in
-          elim (which (leb 0x81 a && leb a 0x84)) [
+          let e′ : cond (leb a 0x84) (afterCount (a - 0x80) r) none ≡ some l = rw (le-ltb a 128 (omega arith)) at e in
+          elim (which (leb a 0x84)) [
             | inl q ↦
-                let (x, y) = and-true (leb 0x81 a) (leb a 0x84) q in
-                let first : 0x81 ≤ a = leb-true 0x81 a x in
-                let last : a ≤ 0x84 = leb-true a 0x84 y in
+                let last : a ≤ 0x84 = leb-true a 0x84 q in
                 let z : 0x80 + (a - 0x80) ≡ a = omega arith in
-                rw z at (is-counted (a - 0x80) r (omega arith) (omega arith) (b .1) l (rw q at e′))
+                rw z at (is-counted (a - 0x80) r (omega arith) (b .1) l (rw q at e′))
             | inr q ↦ absurd (no-some (rw q at e′))
           ]
     ]
@@ -154,13 +162,8 @@ fewest p n (counted k a b h l e) =
       | yes g ↦ rw (e, in-two n h g) (omega (arith, w))
       | no g ↦
           let g′ : 256 ≤ n = omega arith in
-          rw (e, in-three n g′) (omega (arith, w, two-at-least k n g′ l))
+          rw (e, in-three n g′) (omega (arith, w, two-bytes k n g′ l))
     ]
-  where
-    two-at-least : (k n : ℕ) → 256 ≤ n → n < 256 ^ k → 2 ≤ k
-    two-at-least zero n g l = absurd (omega arith)
-    two-at-least (suc zero) n g l = absurd (omega arith)
-    two-at-least (suc (suc k)) n g l = omega arith
 
 -- spellings of one number that are equally long are the same
 pub one-form : (p q : List ℕ) (n : ℕ) → Spells p n → Spells q n → length p ≡ length q → p ≡ q

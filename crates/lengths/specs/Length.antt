@@ -1,7 +1,7 @@
 -- 01, "Container form": how a length is written, and what is read where one is due.
 use Prim.Native.Nat.{ℕ, suc, _+_, _-_, _/_, _%_, _^_, _<_, _≤_}
 use mathlib.Core.Path.{_≡_}
-use mathlib.Core.Bool.{cond, _&&_}
+use mathlib.Core.Bool.{cond}
 use mathlib.Core.Option.{Option, none, some}
 use mathlib.Core.List.{List, [], _∷_}
 use lib.ListN.{length, take}
@@ -40,7 +40,7 @@ abbrev pub byFirst : List ℕ → Option Spelt
 byFirst [] = none
 byFirst (a ∷ r) =
     cond (ltb a 128) (some (record { number = a; width = 1 }))
-    (cond (leb 0x81 a && leb a 0x84) (afterCount (a - 0x80) r) none)
+    (cond (leb a 0x84) (afterCount (a - 0x80) r) none)
 
 unfoldable pub readLength : List ℕ → Option Spelt
 readLength s = byFirst s
