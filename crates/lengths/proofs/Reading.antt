@@ -42,10 +42,10 @@ module _ (s : List ℕ) (at : ℕ) where
         pub small : field s (at + 1) count < 128 → Bad ≡ lengthAt at (drop at s)
         small f = rw counts (simp (le-ltb _ _ enough, lt-ltb _ _ f))
 
-        pub several : (n : ℕ) → n ≡ field s (at + 1) count → 128 ≤ n → Is n (at + 1 + count) ≡ lengthAt at (drop at s)
-        several n f g =
+        pub several : (n next : ℕ) → n ≡ field s (at + 1) count → next ≡ at + 1 + count → 128 ≤ n → Is n next ≡ lengthAt at (drop at s)
+        several n next f e g =
             let g′ : 128 ≤ field s (at + 1) count = rw (← f) g in
-            let z : at + 1 + count ≡ at + suc count = omega arith in
+            let z : next ≡ at + suc count = omega arith in
             rw (counts, z) (simp (le-ltb _ _ enough, le-ltb _ _ g′) (ap (λ (x : ℕ). Is x (at + suc count)) f))
 
 -- no more than four bytes hold

@@ -20,7 +20,6 @@ use Rattle.texts.proofs.Reading.{Reads, and, given, so, behind}
 use Rattle.texts.proofs.Numbers.{line-reads, hex-reads, raw-reads}
 use Rattle.container.specs.Container.{Values, Conforms}
 use Rattle.container.proofs.Forms.{conforming-bytes}
-use Rattle.container.proofs.Exact.{bytes-back}
 use Rattle.opens.specs.Open.{Open, nothing, model, holder, card, policy, issuer, Opening, opensNone, opensModel, opensCard, opensPolicy, opensIssuer, opensHolder, openBy, taggedValue, agencyOf, systemOf, inHeader, openOf, openPart}
 use Rattle.opens.proofs.Valued.{taggedRow, value-bytes}
 use Rattle.opens.proofs.Openings.{ruledBy, value-keeps, value-takes, opening, sound, sound-kind}

@@ -1,7 +1,7 @@
 -- "A view gives the element's value as a part of the caller's container; its place and length are fixed": the view of each row is the value that the
 -- row has, where it stands; and an element that is absent, or a tag that no row has, gives 6. Assumes nothing.
 use Prim.Native.Nat.{ℕ, zero, suc, _+_, _≤_}
-use mathlib.Core.Path.{_≡_, refl, sym, ap, ap₂, _∙_}
+use mathlib.Core.Path.{_≡_, refl, sym, ap, _∙_}
 use mathlib.Core.Bool.{Bool, true, false, true≢false}
 use mathlib.Core.Logic.{inl, inr}
 use mathlib.Core.Option.{Option, none, some}

@@ -9,9 +9,9 @@ use native.Mathlib.Omega.{arith}
 use lib.ListN.{length, take, drop, getD, length-append}
 use Rattle.kinds.specs.Tables.{Table, table, first, rowAt}
 use Rattle.kinds.specs.declared.Slot.the-variants.{Holds}
-use Rattle.container.specs.Container.{Values, Spellings, Forms, tagBytes, long, spelled, Allowed, Formed, Conforms}
+use Rattle.container.specs.Container.{Values, Spellings, tagBytes, long, spelled, Allowed, Formed, Conforms}
 use Rattle.container.specs.Reading.{Part}
-use Rattle.container.proofs.Exact.{partAt, partsFrom}
+use Rattle.container.proofs.Exact.{partsFrom}
 use Rattle.container.proofs.Promise.{partsOf}
 use Rattle.views.specs.Views.{placeOf}
 use Rattle.views.proofs.Ways.{no-part}

@@ -20,7 +20,9 @@ returns-2 c =
 
 returns-3 : tie.Need-returns-3
 returns-3 c =
-    several _ _ (omega arith) (omega arith) (omega arith) _ (omega arith) (omega arith) _ (omega (arith, c .before .number .ensures .0, bounded (c .before))) (omega arith)
+    let count = c .before .before .before .before .args .count in
+    several _ _ (omega arith) (omega arith) (omega arith) count (omega arith) (omega arith) _ _ (omega (arith, c .before .number .ensures .0, bounded (c .before))) (omega arith)
+    (omega arith)
 
 pub counted-spec : {M : Type 1} → statement M
 counted-spec =
