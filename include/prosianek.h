@@ -114,8 +114,8 @@ enum prosianek_number {
 uint64_t prosianek_check(uint64_t kind, uint64_t today, const uint8_t *container, size_t size, uint8_t *sheet,
                          size_t sheet_size, uint64_t *place, uint64_t *tag, uint64_t *room, uint64_t *length);
 
-// The container of a value sheet, each length in the fewest bytes. Of a sheet that prosianek_check gave it is the container that was
-// checked, byte for byte, where that was in the fewest bytes too; else a shorter one, with the same elements.
+// The container of a value sheet, each length in the fewest bytes. Of a sheet that prosianek_check gave it is the container that
+// was checked, byte for byte, where that was in the fewest bytes too; else a shorter one, with the same elements.
 //   sheet    the sheet, size its bytes.
 //   container  the lent room, room its size.
 //   place    where the first broken rule is: the offset in the sheet of the row's count; 0 for 1 to 5 and on a success.

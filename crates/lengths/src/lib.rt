@@ -16,8 +16,8 @@ pub enum Length {
     Bad,
 }
 
-// The length at `at`, whose first byte counts so many bytes after it: these hold 128 or more. However large the number, no sum of it
-// is made here: who asks compares it with the bytes that are left.
+// The length at `at`, whose first byte counts so many bytes after it: these hold 128 or more. However large the number, no sum of
+// it is made here: who asks compares it with the bytes that are left.
 fn counted(c: &[u8], at: usize, count: usize) -> Length
     requires { ⌜ (at < length (now c)) × (count ≤ 4) × (getD (now c) at 0 ≡ 0x80 + count) ⌝ }
     ensures { λ r. ⌜ r ≡ lengthAt at (drop at (now (c .entry))) ⌝ }
@@ -33,8 +33,8 @@ fn counted(c: &[u8], at: usize, count: usize) -> Length
 }
 
 // The length at `at`: "up to 127 one byte, above that 81 to 84 with any count of bytes that holds the number", and nothing else
-// is one. 80 needs no test of its own: it counts no bytes, and these hold no number over 127. In the fewest bytes a length over 127
-// takes one or two more: these are told apart, so that no loop is gone through for them.
+// is one. 80 needs no test of its own: it counts no bytes, and these hold no number over 127. In the fewest bytes a length over
+// 127 takes one or two more: these are told apart, so that no loop is gone through for them.
 pub fn read_length(c: &[u8], at: usize) -> Length
     ensures { λ r. ⌜ r ≡ lengthAt at (drop at (now (c .entry))) ⌝ }
 {
