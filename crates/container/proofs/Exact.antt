@@ -6,7 +6,7 @@ use mathlib.Core.Bool.{true, false, true≢false}
 use mathlib.Core.Option.{Option, none, some}
 use mathlib.Core.List.{List, [], _∷_, _++_}
 use native.Mathlib.Omega.{arith}
-use lib.ListN.{length, drop}
+use lib.ListN.{length, drop, length-append}
 use lib.Seq.{drop-drop, drop-append-seam, take-append-seam}
 use lib.Dec.{eqb}
 use borrow.Author.Tests.{eq-eqb, ne-eqb, eqb-true, eqb-false}
@@ -39,6 +39,10 @@ bytes-front xs ys b = rw (take-append-seam xs ys) at (below-take 256 (length xs)
 
 pub bytes-back : (xs ys : List ℕ) → Bytes (xs ++ ys) → Bytes ys
 bytes-back xs ys b = rw (drop-append-seam xs ys) at (below-drop 256 (length xs) (xs ++ ys) b)
+
+-- how long an element is, and what follows it
+pub element-length : (t : ℕ) (p v rest : List ℕ) → length (tagBytes t ++ (p ++ (v ++ rest))) ≡ long t + length p + length v + length rest
+element-length t p v rest = omega (arith, length-append (tagBytes t) (p ++ (v ++ rest)), length-append p (v ++ rest), length-append v rest)
 
 -- ---- what is read was written
 

@@ -12,8 +12,8 @@ use Rattle.lengths.specs.Length.{lengthBytes}
 use Rattle.lengths.proofs.Writing.{no-fewer}
 use Rattle.lengths.proofs.Spellings.{apart, spells, fewest as fewest-bytes, as-few}
 use Rattle.kinds.specs.Tables.{Table, table, IsKind}
-use Rattle.container.specs.Container.{Values, Spellings, tagBytes, long, spelled, outerTag, Forms, containerIn, fewest, encode, container, Allowed, Formed, largest, Conforms}
-use Rattle.container.proofs.Exact.{bytes-front, bytes-back}
+use Rattle.container.specs.Container.{Values, Spellings, tagBytes, spelled, outerTag, Forms, containerIn, fewest, encode, fewestForms, container, Allowed, Formed, largest, Conforms}
+use Rattle.container.proofs.Exact.{bytes-front, bytes-back, element-length}
 
 -- ---- the bytes have them but once
 
@@ -50,18 +50,14 @@ one-forms kind today vs ws c e h k =
 
 -- ---- the fewest bytes
 
--- how long an element is, and what follows it
-grown : (t : ℕ) (p v rest : List ℕ) → length (tagBytes t ++ (p ++ (v ++ rest))) ≡ long t + length p + length v + length rest
-grown t p v rest = omega (arith, length-append (tagBytes t) (p ++ (v ++ rest)), length-append p (v ++ rest), length-append v rest)
-
 module _ (today : ℕ) where
-  pub fewest-formed : (rs : Table) (vs : Values) → Allowed today rs vs → length (encode rs vs) < 65536 → Formed vs (fewest vs)
+  fewest-formed : (rs : Table) (vs : Values) → Allowed today rs vs → length (encode rs vs) < 65536 → Formed vs (fewest vs)
   fewest-formed [] [] a h = tt
   fewest-formed [] (o ∷ vs) a h = absurd a
   fewest-formed (r ∷ rs) [] a h = absurd a
   fewest-formed (r ∷ rs) (none ∷ vs) a h = (refl, fewest-formed rs vs (a .1) h)
   fewest-formed (r ∷ rs) (some v ∷ vs) a h =
-      let l = grown (r .tag) (lengthBytes (length v)) v (encode rs vs) in
+      let l = element-length (r .tag) (lengthBytes (length v)) v (encode rs vs) in
       (spells (length v) (omega (arith, l)), fewest-formed rs vs (a .1) (omega (arith, l)))
 
   no-longer : (rs : Table) (vs : Values) (ps : Spellings) → Allowed today rs vs → Formed vs ps → length (encode rs vs) ≤ length (spelled rs vs ps)
@@ -72,7 +68,7 @@ module _ (today : ℕ) where
   no-longer (r ∷ rs) (none ∷ vs) (p ∷ ps) a f = no-longer rs vs ps (a .1) (f .1)
   no-longer (r ∷ rs) (some v ∷ vs) (p ∷ ps) a f =
       let n = no-longer rs vs ps (a .1) (f .1) in
-      omega (arith, n, fewest-bytes p (length v) (f .0), grown (r .tag) (lengthBytes (length v)) v (encode rs vs), grown (r .tag) p v (spelled rs vs ps))
+      omega (arith, n, fewest-bytes p (length v) (f .0), element-length (r .tag) (lengthBytes (length v)) v (encode rs vs), element-length (r .tag) p v (spelled rs vs ps))
 
   as-short : (rs : Table) (vs : Values) (ps : Spellings) → Allowed today rs vs → Formed vs ps → length (encode rs vs) < 65536 → length (spelled rs vs ps) ≤ length (encode rs vs)
       → ps ≡ fewest vs
@@ -82,8 +78,8 @@ module _ (today : ℕ) where
   as-short (r ∷ rs) (o ∷ vs) [] a f h l = absurd f
   as-short (r ∷ rs) (none ∷ vs) (p ∷ ps) a f h l = ap₂ (λ (x : List ℕ) (l : Spellings). x ∷ l) (f .0) (as-short rs vs ps (a .1) (f .1) h l)
   as-short (r ∷ rs) (some v ∷ vs) (p ∷ ps) a f h l =
-      let m = grown (r .tag) (lengthBytes (length v)) v (encode rs vs) in
-      let n = grown (r .tag) p v (spelled rs vs ps) in
+      let m = element-length (r .tag) (lengthBytes (length v)) v (encode rs vs) in
+      let n = element-length (r .tag) p v (spelled rs vs ps) in
       let j = no-longer rs vs ps (a .1) (f .1) in
       let k = fewest-bytes p (length v) (f .0) in
       ap₂ (λ (x : List ℕ) (l : Spellings). x ∷ l) (as-few p (length v) (omega (arith, m)) (f .0) (omega (arith, m, n, j)))
@@ -115,10 +111,11 @@ conforming-bytes kind today vs c h b =
 -- ---- of a container
 
 module _ (kind today : ℕ) (vs : Values) where
-  -- how long it is
+  -- its elements in the fewest bytes
   abbrev least : List ℕ
   least = encode (table kind) vs
 
+  -- how long it is
   whole : (fs : Forms) → length (containerIn kind vs fs) ≡ 1 + length (fs .outer) + length (spelled (table kind) vs (fs .rows))
   whole fs = omega (arith, length-append (fs .outer) (spelled (table kind) vs (fs .rows)))
 
@@ -130,7 +127,7 @@ module _ (kind today : ℕ) (vs : Values) where
         date-is = d;
         size-is = l;
         allowed = a;
-        forms = record { outer = lengthBytes (length least); rows = fewest vs };
+        forms = fewestForms kind vs;
         rows-formed = fewest-formed today (table kind) vs a (omega (arith, m));
         outer-formed = spells (length least) (omega (arith, m));
         written = refl;

@@ -7,7 +7,7 @@ use mathlib.Core.Bool.{true, false, cond, true≢false}
 use mathlib.Core.Option.{Option, none, some}
 use mathlib.Core.List.{List, [], _∷_, _++_}
 use native.Mathlib.Omega.{arith}
-use lib.ListN.{length, take, drop, length-append}
+use lib.ListN.{length, take, drop}
 use lib.Seq.{drop-drop, take-append-add}
 use lib.Dec.{eqb}
 use borrow.Author.Tests.{eqb-true}
@@ -26,7 +26,7 @@ use Rattle.container.specs.Reading.{Parsed, values, fault, Part, prepend
 use Rattle.container.specs.InOrder.{Owed, AtFault, not-in-table, not-to-come, passed-over, in-row, Wrong, at-end, at-element, First}
 use Rattle.container.proofs.Tags.{Tags, tag-is, tag-read, tag-stands}
 use Rattle.container.proofs.One.{element-is, good-fits}
-use Rattle.container.proofs.Exact.{bytes-front, bytes-back}
+use Rattle.container.proofs.Exact.{bytes-front, bytes-back, element-length}
 use Rattle.container.proofs.Faults.{faulty-exact}
 
 -- ---- what is wrong where the walk over the rows stops
@@ -136,7 +136,7 @@ module _ (today : ℕ) (all : Table) where
       let m = length rest in
       let a : long (r .tag) + n + m ≡ long (r .tag) + (n + m) = omega arith in
       let q : length (tagBytes (r .tag) ++ (p ++ (v ++ rest))) ≡ long (r .tag) + (n + m) =
-      omega (arith, g .width, length-append (tagBytes (r .tag)) (p ++ (v ++ rest)), length-append p (v ++ rest), length-append v rest) in
+      omega (arith, g .width, element-length (r .tag) p v rest) in
       let h : take m y ≡ rest = rw z at (w .written) in
       let k : take (length v + m) (v ++ y) ≡ v ++ rest = take-append-add v y m ∙ rw h in
       let l : take (length p + (length v + m)) (p ++ (v ++ y)) ≡ p ++ (v ++ rest) = take-append-add p (v ++ y) (length v + m) ∙ rw k in

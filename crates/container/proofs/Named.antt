@@ -27,7 +27,7 @@ use Rattle.container.specs.InOrder.{Owed, AtFault, not-in-table, not-to-
 use Rattle.container.proofs.Rows.{Distinct, gone}
 use Rattle.container.proofs.Tags.{Tags, tags, distinct, begins, no-tag, tag-read}
 use Rattle.container.proofs.One.{fits-good}
-use Rattle.container.proofs.Exact.{Apart, skips, partAt, takes, bytes-front, bytes-back}
+use Rattle.container.proofs.Exact.{Apart, skips, partAt, takes, bytes-front, bytes-back, element-length}
 use Rattle.container.proofs.Faults.{length-read, none-read, faulty-exact}
 use Rattle.container.proofs.Promise.{kind-exact, named}
 
@@ -138,13 +138,10 @@ module _ (today : ℕ) (all : Table) where
         ∙ ap (prepend none) (back all-tags rs later (o ∷ vs) ps at t (p .1) (d .1) k (a .1) (g .1) l b w)
     back all-tags (r ∷ rs) later (some v ∷ vs) (q ∷ ps) at t p d k a g l b w =
         let rest = spelled rs vs ps in
-        let x = length-append (tagBytes (r .tag)) (q ++ (v ++ rest)) in
-        let y = length-append q (v ++ rest) in
-        let m = length-append v rest in
         let e : (tagBytes (r .tag) ++ (q ++ (v ++ rest))) ++ t ≡ tagBytes (r .tag) ++ (q ++ (v ++ (rest ++ t))) =
         append-assoc (tagBytes (r .tag)) (q ++ (v ++ rest)) t ∙ rw (append-assoc q (v ++ rest) t, append-assoc v rest t) in
         let b₁ : Bytes (v ++ (rest ++ t)) = bytes-back q (v ++ (rest ++ t)) (bytes-back (tagBytes (r .tag)) (q ++ (v ++ (rest ++ t))) (rw e at b)) in
-        let z : at + length (tagBytes (r .tag) ++ (q ++ (v ++ rest))) ≡ at + long (r .tag) + (length q + length v) + length rest = omega (arith, x, y, m) in
+        let z : at + length (tagBytes (r .tag) ++ (q ++ (v ++ rest))) ≡ at + long (r .tag) + (length q + length v) + length rest = omega (arith, element-length (r .tag) q v rest) in
         rw (e, z)
         (takes today all r (rs ++ later) at q v (rest ++ t) (p .0) (g .0) (fits-good today r v (bytes-front v (rest ++ t) b₁) (a .0))
         ∙ ap (prepend (partAt (at + long (r .tag)) q v)) (back all-tags rs later vs ps (at + long (r .tag) + (length q + length v)) t (p .1) (d .1) k (a .1) (g .1) l (bytes-back v (rest ++ t) b₁) w))

@@ -14,7 +14,7 @@ use borrow.Author.Tests.{lt-ltb, le-ltb, le-leb, leb-true}
 use Rattle.laws.specs.Bytes.{Bytes}
 use Rattle.laws.specs.Digits.{value, digits}
 use Rattle.laws.specs.Layout.{number}
-use Rattle.laws.proofs.Bases.{below-take, value-lt, length-digits, below-digits, value-digits, digits-read}
+use Rattle.laws.proofs.Bases.{below-take, value-lt, length-digits, value-digits, digits-read}
 use Rattle.laws.proofs.Cases.{which, no-some}
 use Rattle.lengths.specs.Length.{Spells, one-byte, counted, lengthBytes, Spelt, afterCount, readLength}
 use Rattle.lengths.proofs.Writing.{in-one, in-two, in-three, by-size}
@@ -41,11 +41,7 @@ reads p n r (counted k a b h l e) =
     let m : k ≤ length (ds ++ r) = rw (length-append, w) (omega arith) in
     rw (e, x, y, z, le-ltb _ _ m, t, v, le-ltb n 128 h, w)
 
--- they are bytes, one at least
-pub spelt-bytes : (p : List ℕ) (n : ℕ) → Spells p n → Bytes p
-spelt-bytes p n (one-byte h e) = rw e (omega arith, tt)
-spelt-bytes p n (counted k a b h l e) = rw e (omega arith, below-digits 256 bytes k n)
-
+-- they are one at least
 pub spelt-some : (p : List ℕ) (n : ℕ) → Spells p n → 1 ≤ length p
 spelt-some p n (one-byte h e) = rw e (omega arith)
 spelt-some p n (counted k a b h l e) = rw e (omega arith)

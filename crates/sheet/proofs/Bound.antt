@@ -4,7 +4,7 @@ use mathlib.Core.Path.{refl}
 use mathlib.Core.Bool.{cond}
 use mathlib.Core.Logic.{inl, inr}
 use mathlib.Core.Option.{none, some}
-use mathlib.Core.List.{List, [], _∷_, _++_}
+use mathlib.Core.List.{List, [], _∷_}
 use native.Mathlib.Omega.{arith}
 use lib.Dec.{leb, ltb}
 use lib.ListN.{length, length-append}
@@ -16,6 +16,7 @@ use Rattle.lengths.proofs.Writing.{some-bytes}
 use Rattle.kinds.specs.Tables.{Table, table}
 use Rattle.kinds.proofs.Every.{of-every}
 use Rattle.container.specs.Container.{Values, tagBytes, encode, Allowed, Conforms}
+use Rattle.container.proofs.Exact.{element-length}
 use Rattle.container.proofs.Forms.{never-longer}
 use Rattle.sheet.specs.Sheet.{sheetOf}
 use Rattle.sheet.proofs.Sheets.{sheet-length}
@@ -49,10 +50,8 @@ rows-bound today (r ∷ rs) (none ∷ vs) a =
 rows-bound today (r ∷ rs) (some v ∷ vs) a =
     let h = rows-bound today rs vs (a .1) in
     let l = sheet-length (some v) vs in
-    let k = length-append (tagBytes (r .tag)) (lengthBytes (length v) ++ (v ++ encode rs vs)) in
-    let m = length-append (lengthBytes (length v)) (v ++ encode rs vs) in
-    let n = length-append v (encode rs vs) in
-    omega (arith, h, l, k, m, n, tag-long (r .tag), some-bytes (length v))
+    let k = element-length (r .tag) (lengthBytes (length v)) v (encode rs vs) in
+    omega (arith, h, l, k, tag-long (r .tag), some-bytes (length v))
 
 pub sheet-bound : (kind today : ℕ) (vs : Values) (c : List ℕ) → Conforms kind today vs c → length (sheetOf vs) ≤ length c + 6
 sheet-bound kind today vs c h =

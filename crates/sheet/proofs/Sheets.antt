@@ -13,7 +13,8 @@ use Rattle.laws.proofs.Bases.{below-append}
 use Rattle.lengths.specs.Length.{lengthBytes}
 use Rattle.kinds.specs.Tables.{Table, table}
 use Rattle.kinds.proofs.Every.{some-rows}
-use Rattle.container.specs.Container.{Values, tagBytes, encode, Allowed, Conforms}
+use Rattle.container.specs.Container.{Values, encode, Allowed, Conforms}
+use Rattle.container.proofs.Exact.{element-length}
 use Rattle.container.proofs.Forms.{never-longer, AllBytes, conforming-bytes}
 use Rattle.container.specs.Map.{rowValue, rowValues}
 use Rattle.container.proofs.Lying.{next-row}
@@ -79,12 +80,8 @@ module _ (today : ℕ) where
   sheeted (r ∷ rs) [] a h = absurd a
   sheeted (r ∷ rs) (none ∷ vs) a h = (tt, sheeted rs vs (a .1) h)
   sheeted (r ∷ rs) (some v ∷ vs) a h =
-      let rest = encode rs vs in
-      let head = lengthBytes (length v) in
-      let k = length-append (tagBytes (r .tag)) (head ++ (v ++ rest)) in
-      let l = length-append head (v ++ rest) in
-      let m = length-append v rest in
-      (omega (arith, k, l, m), sheeted rs vs (a .1) (omega (arith, k, l, m)))
+      let l = element-length (r .tag) (lengthBytes (length v)) v (encode rs vs) in
+      (omega (arith, l), sheeted rs vs (a .1) (omega (arith, l)))
 
 section-bytes : (v : List ℕ) → Bytes v → Bytes (section (some v))
 section-bytes v b = (omega arith, (omega arith, b))

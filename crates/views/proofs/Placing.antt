@@ -4,14 +4,14 @@ use Prim.Native.Nat.{ℕ, zero, suc, _+_}
 use mathlib.Core.Path.{_≡_}
 use mathlib.Core.Bool.{Bool}
 use mathlib.Core.Option.{none, some}
-use mathlib.Core.List.{List, [], _∷_, _++_}
+use mathlib.Core.List.{List, [], _∷_}
 use native.Mathlib.Omega.{arith}
-use lib.ListN.{length, take, drop, getD, length-append}
+use lib.ListN.{length, take, drop, getD}
 use Rattle.kinds.specs.Tables.{Table, table, first, rowAt}
 use Rattle.kinds.specs.declared.Slot.the-variants.{Holds}
-use Rattle.container.specs.Container.{Values, Spellings, tagBytes, long, spelled, Allowed, Formed, Conforms}
+use Rattle.container.specs.Container.{Values, Spellings, long, spelled, Allowed, Formed, Conforms}
 use Rattle.container.specs.Reading.{Part}
-use Rattle.container.proofs.Exact.{partsFrom}
+use Rattle.container.proofs.Exact.{element-length, partsFrom}
 use Rattle.container.proofs.Promise.{partsOf}
 use Rattle.views.specs.Views.{placeOf}
 use Rattle.views.proofs.Ways.{no-part}
@@ -36,7 +36,7 @@ rows-placed today at (r ∷ rs) (some v ∷ vs) (x ∷ ps) a f zero p e t o q =
 rows-placed today at (r ∷ rs) (some v ∷ vs) (x ∷ ps) a f (suc i) p e t o q =
     let rest = spelled (take i rs) (take i vs) (take i ps) in
     let h = rows-placed today (at + long (r .tag) + (length x + length v)) rs vs ps (a .1) (f .1) i p e t o q in
-    omega (arith, h, length-append (tagBytes (r .tag)) (x ++ (v ++ rest)), length-append x (v ++ rest), length-append v rest)
+    omega (arith, h, element-length (r .tag) x v rest)
 
 pub placed : (kind today : ℕ) (c : List ℕ) (vs : Values) (h : Conforms kind today vs c) → (i t : ℕ) (o : Bool) → rowAt kind i ≡ Holds t o
     → (p : Part) → getD (partsOf kind vs (h .forms)) i none ≡ some p → p .offset ≡ placeOf kind vs (h .forms) i t
