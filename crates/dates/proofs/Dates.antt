@@ -3,7 +3,7 @@ use Prim.Native.Nat.{ℕ, _+_, _-_, _*_, _/_, _%_, _≤_, _<_}
 use mathlib.Core.Path.{_≡_, refl, sym, _∙_}
 use mathlib.Core.Bool.{Bool, true, false, cond, _&&_}
 use mathlib.Core.Logic.{_↔_, inl, inr}
-use mathlib.Core.List.{List, [], _∷_, _++_, map}
+use mathlib.Core.List.{List, [], _∷_, map, map-append, append-assoc}
 use native.Mathlib.Omega.{arith}
 use lib.Dec.{leb, eqb}
 use lib.ListN.{length, length-map}
@@ -15,7 +15,7 @@ use Rattle.laws.proofs.Cases.{and-true, all-true, which}
 use Rattle.laws.proofs.Bases.{length-digits, below-digits, digits-append, value-digits, digits-read}
 use Rattle.dates.specs.declared.Date.the-variants.{Is, Not}
 use Rattle.dates.specs.Calendar.{Exists}
-use Rattle.dates.specs.Date.{dateNumber, IsDate, isDate, IsTextOf, IsTextDate, isDigit, textNumber, dateOf}
+use Rattle.dates.specs.Date.{dateNumber, IsDate, isDate, inDigits, dateText, IsTextOf, IsTextDate, isDigit, textNumber, dateOf}
 use Rattle.dates.proofs.Calendars.{exists-exact, days-most}
 
 -- ---- a date as a number of eight digits
@@ -46,11 +46,11 @@ date-exact n = (sound, complete)
 -- ---- "Eight ASCII digits"
 
 -- the digits of year, month and day in a row are the number's
-digits-date : (y m d : ℕ) → m < 100 → d < 100 → digits 10 4 y ++ digits 10 2 m ++ digits 10 2 d ≡ digits 10 8 (dateNumber y m d)
+digits-date : (y m d : ℕ) → m < 100 → d < 100 → dateText y m d ≡ inDigits 8 (dateNumber y m d)
 digits-date y m d g h =
     let e : dateNumber y m d ≡ (y * 100 + m) * 100 + d = omega arith in
     let p : 0 < 10 = omega arith in
-    rw (e, digits-append 10 p 6 2 (y * 100 + m) d h, digits-append 10 p 4 2 y m g)
+    rw (e, digits-append 10 p 6 2 (y * 100 + m) d h, digits-append 10 p 4 2 y m g, map-append, map-append, append-assoc)
 
 -- digits as bytes, and back
 back : (ds : List ℕ) → map (λ b. b - 48) (map (λ d. 48 + d) ds) ≡ ds
@@ -78,7 +78,7 @@ forth (b ∷ s) e =
     (rw (q, r .0), (omega arith, r .1))
 
 -- eight digits are the text of the number that they make
-is-text : (s : List ℕ) → length s ≡ 8 → each isDigit s ≡ true → s ≡ map (λ d. 48 + d) (digits 10 8 (textNumber s))
+is-text : (s : List ℕ) → length s ≡ 8 → each isDigit s ≡ true → s ≡ inDigits 8 (textNumber s)
 is-text s l e =
     let f = forth s e in
     let ten : 0 < 10 = omega arith in
@@ -86,7 +86,7 @@ is-text s l e =
     rw r (sym (f .0))
 
 -- and the text of a number of eight digits makes it
-text-is : (s : List ℕ) (n : ℕ) → s ≡ map (λ d. 48 + d) (digits 10 8 n) → n < 100000000
+text-is : (s : List ℕ) (n : ℕ) → s ≡ inDigits 8 n → n < 100000000
     → (length s ≡ 8) × (each isDigit s ≡ true) × (textNumber s ≡ n)
 text-is s n e h =
     let ten : 0 < 10 = omega arith in (
@@ -96,7 +96,7 @@ text-is s n e h =
     )
 
 -- a date's bytes are its number's eight digits
-text-of : (s : List ℕ) (n : ℕ) → IsTextOf s n → (s ≡ map (λ d. 48 + d) (digits 10 8 n)) × (n < 100000000)
+text-of : (s : List ℕ) (n : ℕ) → IsTextOf s n → (s ≡ inDigits 8 n) × (n < 100000000)
 text-of s n (y, m, d, x, e, f) =
     let k = small x in
     (e ∙ rw (f, digits-date y m d (k .0) (k .1)), rw f (k .2))

@@ -3,4 +3,5 @@ pub mod Windows
 pub mod Dates
 pub mod Texts
 pub mod Moments
+pub mod Printed
 pub mod Examples

@@ -38,7 +38,7 @@ unfolding twoDigits
 no-pair a b e = rw e
 
 -- what is less than 10000 was read off two digits
-two-back : (a b : ℕ) → twoDigits a b < 10000 → (isDigit a ≡ true) × (isDigit b ≡ true)
+pub two-back : (a b : ℕ) → twoDigits a b < 10000 → (isDigit a ≡ true) × (isDigit b ≡ true)
 two-back a b h =
     elim (which (isDigit a && isDigit b)) [
       | inl q ↦ and-true (isDigit a) (isDigit b) q

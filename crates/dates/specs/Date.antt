@@ -26,8 +26,12 @@ isDate n = exists (n / 10000) (n / 100 % 100) (n % 100)
 
 -- ---- "Eight ASCII digits"
 
+-- the last w decimal digits of n, as ASCII
+abbrev pub inDigits : ℕ → ℕ → List ℕ
+inDigits w n = map (λ d. 48 + d) (digits 10 w n)
+
 abbrev pub dateText : ℕ → ℕ → ℕ → List ℕ
-dateText year month day = map (λ d. 48 + d) (digits 10 4 year ++ digits 10 2 month ++ digits 10 2 day)
+dateText year month day = inDigits 4 year ++ inDigits 2 month ++ inDigits 2 day
 
 -- these bytes are a date, and as a number it is n
 abbrev pub IsTextOf : List ℕ → ℕ → Type 0

@@ -1,11 +1,12 @@
-// Dates: as the number that a call takes for today, as eight digits of text, as the eight bytes of a header; and the
-// window of an expiry.
+// Dates: as the number that a call takes for today, as eight digits of text, as the nine characters that are printed, as the
+// eight bytes of a header; and the window of an expiry.
 ghost use mathlib.Core.Path.{_≡_};
 ghost use Prim.Native.Nat.{_<_, _≤_};
 ghost use Rattle.dates.specs.Calendar.{leap, daysIn, exists};
 ghost use Rattle.dates.specs.Date.{isDate, isDigit, dateOf, inWindow};
 ghost use Rattle.dates.specs.Moment.{momentOf};
 ghost use Rattle.dates.specs.Pairs.{twoDigits};
+ghost use Rattle.dates.specs.Printed.{monthNumber, isPrintedDate};
 
 // A text date: its eight-digit number.
 pub enum Date {
@@ -94,6 +95,40 @@ pub fn date_of(s: &[u8]) -> Date
         return Date::Not;
     }
     Date::Is(year * 10000 + month * 100 + day)
+}
+
+// The month that three capitals name, by the number that they make; 0, if they name none.
+fn month_number(letters: u64) -> u64
+    ensures { λ r. ⌜ r ≡ monthNumber letters ⌝ }
+{
+    match letters {
+        0x4A414E => 1, // JAN
+        0x464542 => 2, // FEB
+        0x4D4152 => 3, // MAR
+        0x415052 => 4, // APR
+        0x4D4159 => 5, // MAY
+        0x4A554E => 6, // JUN
+        0x4A554C => 7, // JUL
+        0x415547 => 8, // AUG
+        0x534550 => 9, // SEP
+        0x4F4354 => 10, // OCT
+        0x4E4F56 => 11, // NOV
+        0x444543 => 12, // DEC
+        _ => 0,
+    }
+}
+
+// "four digits, three capitals JAN to DEC, two digits, a real date"
+pub fn is_printed_date(s: &[u8]) -> bool
+    ensures { λ r. ⌜ r ≡ isPrintedDate (now (s .entry)) ⌝ }
+{
+    if s.len() != 9 {
+        return false;
+    }
+    let year = two_digits(s[0], s[1]) * 100 + two_digits(s[2], s[3]);
+    let month = month_number(numbers::number(s, 4, 3));
+    let day = two_digits(s[7], s[8]);
+    exists(year, month, day)
 }
 
 // "t <= e <= t + 60,000 (six years)"; the sum is not formed, since it need not fit.

@@ -7,19 +7,11 @@ use native.Mathlib.Omega.{arith}
 use lib.Dec.{eqb}
 use lib.ListN.{length, getD, take, drop, drop-of-length-le, List·getD-eq-default}
 use borrow.Author.Tests.{ne-eqb}
+use Rattle.laws.proofs.Arms.{passed}
+pub use Rattle.laws.proofs.Arms.{Others}
 use Rattle.kinds.specs.Tables.{Table, certificate, tables, table, find, first}
 use Rattle.kinds.specs.declared.Row.the-variants.{Missing}
 use Rattle.kinds.specs.declared.Slot.the-variants.{End}
-
--- what a default knows, as the borrow checker nests it: the number is none of these
-abbrev pub Others : List ℕ → ℕ → Type 0 → Type 0
-Others [] n A = A
-Others (k ∷ ks) n A = Others ks n (A × (n ≡ k → ⊥))
-
--- the same over a table's tags
-abbrev pub Rest : Table → ℕ → Type 0 → Type 0
-Rest [] t A = A
-Rest (r ∷ rs) t A = Rest rs t (A × (t ≡ r .tag → ⊥))
 
 -- ---- by the place in a list
 
@@ -46,10 +38,6 @@ none-listed l d (suc n) h =
 abbrev pub among : List ℕ → ℕ → Bool
 among [] n = false
 among (k ∷ ks) n = eqb n k || among ks n
-
-passed : (ks : List ℕ) (n : ℕ) (A : Type 0) → Others ks n A → A
-passed [] n A h = h
-passed (k ∷ ks) n A h = passed ks n (A × (n ≡ k → ⊥)) h .0
 
 pub none-among : (ks : List ℕ) (n : ℕ) (A : Type 0) → Others ks n A → among ks n ≡ false
 none-among [] n A h = refl
@@ -89,17 +77,17 @@ certificates kind h p q =
 pub arm : {rows these : Table} {t tag : ℕ} → rows ≡ these → tag ≡ t → find 0 0 rows t ≡ find 0 0 these tag
 arm e q = ap₂ (find 0 0) e (sym q)
 
-inner : (rs : Table) (t : ℕ) (A : Type 0) → Rest rs t A → A
-inner [] t A h = h
-inner (r ∷ rs) t A h = inner rs t (A × (t ≡ r .tag → ⊥)) h .0
+abbrev tags : Table → List ℕ
+tags [] = []
+tags (r ∷ rs) = r .tag ∷ tags rs
 
-none-of : (rs : Table) (t : ℕ) (A : Type 0) (i from : ℕ) → Rest rs t A → Missing ≡ find i from rs t
+none-of : (rs : Table) (t : ℕ) (A : Type 0) (i from : ℕ) → Others (tags rs) t A → Missing ≡ find i from rs t
 none-of [] t A i from h = refl
 none-of (r ∷ rs) t A i from h =
-    rw (ne-eqb t (r .tag) (inner rs t (A × (t ≡ r .tag → ⊥)) h .1))
-    (none-of rs t (A × (t ≡ r .tag → ⊥)) (i + 1) (cond (r .optional) from (i + 1)) h)
+    let B : Type 0 = A × (t ≡ r .tag → ⊥) in
+    rw (ne-eqb t (r .tag) (passed (tags rs) t B h .1)) (none-of rs t B (i + 1) (cond (r .optional) from (i + 1)) h)
 
-pub default : {rows these : Table} (tag : ℕ) → rows ≡ these → Rest rows tag Unit → Missing ≡ find 0 0 these tag
+pub default : {rows these : Table} (tag : ℕ) → rows ≡ these → Others (tags rows) tag Unit → Missing ≡ find 0 0 these tag
 default {rows} tag e h = none-of rows tag Unit 0 0 h ∙ ap (λ (rs : Table). find 0 0 rs tag) e
 
 -- ---- by the row's number

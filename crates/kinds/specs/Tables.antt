@@ -1,4 +1,4 @@
--- 01, "Container form", and request 2026-04: the tables of the eleven kinds, in their order, and what a table says of a tag and of a row's number.
+-- 01, "Container form", and requests 2026-03 and 2026-04: the tables of the eleven kinds, in their order, and what a table says of a tag and of a row's number.
 use Prim.Native.Nat.{ℕ, _+_, _≤_}
 use mathlib.Core.Path.{_≡_}
 use mathlib.Core.Logic.{_⊎_}
@@ -105,12 +105,13 @@ discovery =
     ∷ must 0x5F2F (exactly 2) Policy
     ∷ []
 
--- "PRINTED: 01 0 to 125; 02 0 to 20; 04 8 (date); 05 0 to 20; 06 15; 07? 0 to 20; 08? 0 to 20; FE. All but 04 are text"
+-- "PRINTED: 01 0 to 125; 02 0 to 20; 04 .. (date); 05 0 to 20; 06 15; 07? 0 to 20; 08? 0 to 20; FE. All but 04 are text"; 2026-03: "Element 04 now has
+-- length 9"
 abbrev pub printed : Table
 printed =
     must 0x01 (upTo 125) Text
     ∷ must 0x02 (upTo 20) Text
-    ∷ must 0x04 (exactly 8) Date
+    ∷ must 0x04 (exactly 9) Date
     ∷ must 0x05 (upTo 20) Text
     ∷ must 0x06 (exactly 15) Text
     ∷ may 0x07 (upTo 20) Text

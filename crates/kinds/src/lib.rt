@@ -83,7 +83,7 @@ pub fn row_of(kind: u64, tag: u64) -> Row
         4 => match tag {
             0x01 => Row::At(1, 0, 0, 125, false, ValueRule::Text),
             0x02 => Row::At(2, 1, 0, 20, false, ValueRule::Text),
-            0x04 => Row::At(3, 2, 8, 8, false, ValueRule::Date),
+            0x04 => Row::At(3, 2, 9, 9, false, ValueRule::Date),
             0x05 => Row::At(4, 3, 0, 20, false, ValueRule::Text),
             0x06 => Row::At(5, 4, 15, 15, false, ValueRule::Text),
             0x07 => Row::At(6, 5, 0, 20, false, ValueRule::Text),

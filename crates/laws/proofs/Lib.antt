@@ -5,3 +5,4 @@ pub mod Layouts
 pub mod Rooms
 pub mod Formats
 pub mod Scans
+pub mod Arms

@@ -4,3 +4,4 @@ pub mod Layout
 pub mod Room
 pub mod Tests
 pub mod Format
+pub mod Ascii

@@ -24,8 +24,11 @@ use Rattle.lengths.proofs.Spellings.{reads as spelling-read, exact}
 use Rattle.dates.specs.Calendar.{daysIn, exists}
 use Rattle.dates.specs.Date.{isDate, dateOf, inWindow}
 use Rattle.dates.specs.Moment.{isMoment}
+use Rattle.dates.specs.Pairs.{twoDigits}
+use Rattle.dates.specs.Printed.{monthNumber, isPrintedDate}
 use Rattle.dates.proofs.Dates.{date-exact}
 use Rattle.dates.proofs.Windows.{window-exact}
+use Rattle.dates.proofs.Printed.{printed-exact}
 use Rattle.plain.specs.Plain.{isUuid, isPolicy, isText, ended, isCreator}
 use Rattle.minutiae.specs.Judged.{pointHolds, pointsHold, viewHead, extent, recordHead, isMinutiae}
 use Rattle.der.specs.Length.{readLength as readDer}
@@ -46,7 +49,7 @@ use Rattle.sheet.specs.declared.Checked.{Checked}
 use Rattle.writing.specs.Writing.{writeOutput}
 use Rattle.writing.proofs.Calls.{leaves}
 use Rattle.prosianek.proofs.Checking.{answer, output, only}
-use Rattle.promises.specs.Examples.{Example, fascn-of, no-fascn, spells, no-length, date, no-date, kept, late, conforms, breaks, checks, writes, today, Holds, All, examples}
+use Rattle.promises.specs.Examples.{Example, fascn-of, no-fascn, spells, no-length, date, no-date, kept, late, printed-date, no-printed-date, conforms, breaks, checks, writes, today, Holds, All, examples}
 
 -- ---- each row as a test
 
@@ -77,6 +80,8 @@ tested (date n) = isDate n
 tested (no-date n) = not (isDate n)
 tested (kept t e) = inWindow t e
 tested (late t e) = not (inWindow t e)
+tested (printed-date s) = areBytes s && isPrintedDate s
+tested (no-printed-date s) = areBytes s && not (isPrintedDate s)
 tested (conforms kind c) = areBytes c && eqb (verdict kind today c .number) 0
 tested (breaks kind c number place tag) =
     let v = verdict kind today c in
@@ -188,6 +193,8 @@ so (date n) t = date-exact n .0 t
 so (no-date n) t = fails (isDate n) (date-exact n) t
 so (kept t e) h = window-exact t e .0 h
 so (late t e) h = fails (inWindow t e) (window-exact t e) h
+so (printed-date s) t = let c = and-true (areBytes s) (isPrintedDate s) t in printed-exact s (are-bytes s (c .0)) .0 (c .1)
+so (no-printed-date s) t = let c = and-true (areBytes s) (not (isPrintedDate s)) t in fails (isPrintedDate s) (printed-exact s (are-bytes s (c .0))) (c .1)
 so (conforms kind c) t = let b = and-true (areBytes c) (eqb (verdict kind today c .number) 0) t in exactly-when kind today c (are-bytes c (b .0)) .0 (eqb-true _ 0 (b .1))
 so (breaks kind c number place tag) t =
     let v = verdict kind today c in
@@ -202,7 +209,7 @@ all-so [] t = tt
 all-so (e ∷ es) t = let c = and-true (tested e) (allTested es) t in (so e (c .0), all-so es (c .1))
 
 all-tested : allTested examples ≡ true
-unfolding allTested tested areBytes isNone isLength sameTag examples ones digits exclusive values checked characters encoded valuesOf framed decoded isFascn lengthBytes readLength daysIn exists isDate dateOf isMoment isUuid isPolicy isText ended isCreator pointHolds pointsHold viewHead extent recordHead isMinutiae readDer headOf items walked certificate ruleOf element located parsed outcome sheetOf writeOutput
+unfolding allTested tested areBytes isNone isLength sameTag examples ones digits exclusive values checked characters encoded valuesOf framed decoded isFascn lengthBytes readLength daysIn exists isDate dateOf twoDigits monthNumber isPrintedDate isMoment isUuid isPolicy isText ended isCreator pointHolds pointsHold viewHead extent recordHead isMinutiae readDer headOf items walked certificate ruleOf element located parsed outcome sheetOf writeOutput
 all-tested = refl
 
 pub examples-hold : All examples

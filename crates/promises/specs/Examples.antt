@@ -1,14 +1,16 @@
--- The examples of document 01, P1 to P14, those of requests 2026-04, 2026-13, 2026-02 and 2026-01, and further rows, as one table: what each row says, over the rules themselves, and the table.
+-- The examples of document 01, P1 to P14, those of requests 2026-04, 2026-13, 2026-02, 2026-01 and 2026-03, and further rows, as one table: what each row says, over the rules themselves, and the table.
 use Prim.Native.Nat.{ℕ, zero, suc, _+_}
 use mathlib.Core.Path.{_≡_}
 use mathlib.Core.Option.{Option, none, some}
 use mathlib.Core.List.{List, [], _∷_, _++_}
 use lib.ListN.{length, replicate}
+use Rattle.laws.specs.Ascii.{ascii}
 use Rattle.laws.specs.Room.{filled}
 use Rattle.fascn.specs.Fascn.{IsFascnOf, IsFascn}
 use Rattle.fascn.specs.declared.Numbers.{Numbers}
 use Rattle.lengths.specs.Length.{Spells}
 use Rattle.dates.specs.Date.{IsDate, InWindow}
+use Rattle.dates.specs.Printed.{IsPrintedDate}
 use Rattle.verdicts.specs.Verdicts.{numberOf, found}
 use Rattle.verdicts.specs.declared.Fault.{Fault}
 use Rattle.verdicts.specs.declared.Tag.{Tag}
@@ -31,6 +33,8 @@ pub data Example : Type 0 where
   no-date : ℕ → Example
   kept : ℕ → ℕ → Example
   late : ℕ → ℕ → Example
+  printed-date : List ℕ → Example
+  no-printed-date : List ℕ → Example
   conforms : ℕ → List ℕ → Example
   breaks : ℕ → List ℕ → ℕ → ℕ → Tag → Example
   checks : ℕ → List ℕ → ℕ → ℕ → ℕ → Tag → ℕ → List ℕ → Example
@@ -49,6 +53,8 @@ Holds (date n) = IsDate n  -- this number is a date
 Holds (no-date n) = IsDate n → ⊥
 Holds (kept t e) = InWindow t e  -- under the date t the expiry e is kept
 Holds (late t e) = InWindow t e → ⊥
+Holds (printed-date s) = IsPrintedDate s  -- these bytes are a date as it is printed
+Holds (no-printed-date s) = IsPrintedDate s → ⊥
 Holds (conforms kind c) = (vs : Values) × Conforms kind today vs c  -- there are values that are allowed and written as these bytes
 Holds (breaks kind c number place tag) = (f : Fault) × (number ≡ numberOf f) × Named kind today c (found f place tag)  -- the first broken rule has this number, place and tag
 -- a check with a room of so many bytes, whatever they were, answers this number, place and tag with this number beside them, and leaves this sheet and zeros
@@ -82,7 +88,7 @@ abbrev uuid : List ℕ
 uuid = replicate 6 1 ++ (0x40 ∷ 0 ∷ 0x80 ∷ replicate 7 1)
 
 abbrev expiry : List ℕ
-expiry = 0x32 ∷ 0x30 ∷ 0x33 ∷ 0x30 ∷ 0x30 ∷ 0x31 ∷ 0x33 ∷ 0x31 ∷ []
+expiry = ascii "20300131"
 
 -- case R's sheet with another FASC-N, another GUID, and its last section given; and the sheet itself
 abbrev chuidRows : List ℕ → List ℕ → List ℕ → List ℕ
@@ -125,8 +131,12 @@ ccc =
     container 1
     (some [] ∷ some [] ∷ some [] ∷ some [] ∷ some [] ∷ some (0x10 ∷ []) ∷ some [] ∷ some [] ∷ some [] ∷ some [] ∷ some [] ∷ some [] ∷ none ∷ none ∷ some [] ∷ [])
 
-abbrev printed : List ℕ
-printed = container 4 (some [] ∷ some [] ∷ some expiry ∷ some [] ∷ some (replicate 15 0x20) ∷ none ∷ none ∷ some [] ∷ [])
+-- a PRINTED with this printed date, and its sheet
+abbrev printed : List ℕ → List ℕ
+printed date = container 4 (some [] ∷ some [] ∷ some date ∷ some [] ∷ some (replicate 15 0x20) ∷ none ∷ none ∷ some [] ∷ [])
+
+abbrev printedSheet : List ℕ → List ℕ
+printedSheet date = 0 ∷ 1 ∷ 0 ∷ 1 ∷ 0 ∷ (length date + 1) ∷ (date ++ (0 ∷ 1 ∷ 0 ∷ 16 ∷ (replicate 15 0x20 ++ (0 ∷ 0 ∷ 0 ∷ 0 ∷ 0 ∷ 1 ∷ []))))
 
 abbrev security : List ℕ
 security = container 5 (some [] ∷ some [] ∷ some [] ∷ [])
@@ -204,7 +214,7 @@ examples =
     ∷ conforms 1 ccc
     ∷ conforms 2 chuid
     ∷ conforms 2 fullChuid
-    ∷ conforms 4 printed
+    ∷ conforms 4 (printed (ascii "2030JAN31"))
     ∷ conforms 5 security
     ∷ conforms 6 (fingers 0x64)
     ∷ conforms 7 (face 0x64)
@@ -310,4 +320,32 @@ examples =
     ∷ writes 2 (signedSheet 200) 264 0 0 NoTag (signed (0x82 ∷ 0x01 ∷ 0x04 ∷ []) (0x81 ∷ 0xC8 ∷ []) 200)
     ∷ writes 2 (signedSheet 200) 263 3 0 NoTag []
     ∷ breaks 8 (bare (three 0x30 (0x04 ∷ 0x82 ∷ 0x00 ∷ 0x80 ∷ replicate 128 0))) 24 3 (Of 0x70)
+    -- 2026-03: the request's date; small letters, no such day, no such year, a letter for a digit, eight digits and a space; 29 February
+    ∷ printed-date (ascii "2030JAN31")
+    ∷ no-printed-date (ascii "2030jan31")
+    ∷ no-printed-date (ascii "2030FEB30")
+    ∷ no-printed-date (ascii "0000JAN01")
+    ∷ no-printed-date (ascii "2030JAN3x")
+    ∷ no-printed-date (ascii "20300131 ")
+    ∷ printed-date (ascii "2028FEB29")
+    ∷ no-printed-date (ascii "2100FEB29")
+    -- the first date and the last; the letters of no month; the parts in another order; a day 00
+    ∷ printed-date (ascii "0001JAN01")
+    ∷ printed-date (ascii "9999DEC31")
+    ∷ no-printed-date (ascii "2030MAI05")
+    ∷ no-printed-date (ascii "31JAN2030")
+    ∷ no-printed-date (ascii "2030JAN00")
+    -- in a container: no date is 19; eight characters, ten and none are 16, whatever they are; the date may lie in the past
+    ∷ breaks 4 (printed (ascii "2030jan31")) 19 6 (Of 0x04)
+    ∷ breaks 4 (printed (ascii "2030FEB30")) 19 6 (Of 0x04)
+    ∷ breaks 4 (printed (ascii "20300131 ")) 19 6 (Of 0x04)
+    ∷ breaks 4 (printed (ascii "20300131")) 16 6 (Of 0x04)
+    ∷ breaks 4 (printed (ascii "2030JAN310")) 16 6 (Of 0x04)
+    ∷ breaks 4 (printed []) 16 6 (Of 0x04)
+    ∷ conforms 4 (printed (ascii "2000FEB29"))
+    -- and in a sheet
+    ∷ checks 4 (printed (ascii "2030JAN31")) 40 0 0 NoTag 0 (printedSheet (ascii "2030JAN31"))
+    ∷ writes 4 (printedSheet (ascii "2030JAN31")) 38 0 0 NoTag (printed (ascii "2030JAN31"))
+    ∷ writes 4 (printedSheet (ascii "2030FEB30")) 38 19 4 (Of 0x04) []
+    ∷ writes 4 (printedSheet (ascii "20300131")) 38 16 4 (Of 0x04) []
     ∷ []

@@ -18,20 +18,22 @@ use Rattle.verdicts.specs.declared.Ruling.{Ruling}
 use Rattle.verdicts.specs.declared.Ruling.the-variants.{Kept, Breaks}
 use Rattle.kinds.specs.declared.ValueRule.{ValueRule}
 use Rattle.kinds.specs.declared.ValueRule.the-variants.{Free, Fascn, Uuid, Expiry, Model, Application, Policy, Text, Date, Fingers, Face, Certificate, CertInfo}
-use Rattle.dates.specs.Date.{IsTextDate, dateOf, inWindow}
+use Rattle.dates.specs.Date.{dateOf, inWindow}
+use Rattle.dates.specs.Printed.{isPrintedDate}
 use Rattle.dates.specs.declared.Date.{Date as TextDate}
 use Rattle.dates.specs.declared.Date.the-variants.{Is, Not}
 use Rattle.dates.proofs.Dates.{text-exact}
 use Rattle.dates.proofs.Windows.{window-exact}
+use Rattle.dates.proofs.Printed.{printed-exact}
 use Rattle.fascn.specs.Reading.{isFascn}
 use Rattle.fascn.proofs.Codec.{fascn-exact}
 use Rattle.plain.specs.Plain.{isUuid, isPolicy, isText}
-use Rattle.plain.proofs.Exact.{uuid-exact, policy-exact, text-exact as printed-exact}
+use Rattle.plain.proofs.Exact.{uuid-exact, policy-exact, text-exact as plain-text-exact}
 use Rattle.cbeff.specs.Header.{header, fingers, face}
 use Rattle.cbeff.proofs.Exact.{fingers-exact, face-exact, first-broken-exact}
 use Rattle.der.proofs.Exact.{certificate-exact}
 use Rattle.der.proofs.Faults.{certificate-refused}
-use Rattle.rules.specs.Rules.{model, application, certInfo, certificateDepth, Keeps, Violates, expires, dated, ruleOf}
+use Rattle.rules.specs.Rules.{model, application, certInfo, certificateDepth, Keeps, Violates, expires, ruleOf}
 
 no-kept : {f : Fault} → Breaks f ≡ Kept → ⊥
 no-kept e = let z : _≡_ {A = ℕ} 0 1 = cc in omega arith
@@ -47,12 +49,7 @@ by-judge : {P : Type 0} (j : Judged Fault) → ((j ≡ kept) ↔ P) → (ruled j
 by-judge kept p = (λ e. p .0 refl, λ h. refl)
 by-judge (breaks f) p = (λ e. absurd (no-kept e), λ h. ap ruled (p .1 h))
 
--- a text date, and one in its window
-by-date : (v : List ℕ) (d : TextDate) → dateOf v ≡ d → (dated d ≡ Kept) ↔ IsTextDate v
-by-date v (Is n) e = (λ k. (n, text-exact v n .0 e), λ h. refl)
-by-date v Not e =
-    (λ k. absurd (no-kept k), λ h. let g : Not ≡ Is (h .0) = sym e ∙ text-exact v (h .0) .1 (h .1) in let z : _≡_ {A = ℕ} 0 1 = cc in absurd (omega arith))
-
+-- a text date in its window
 by-expiry : (today : ℕ) (v : List ℕ) (d : TextDate) → dateOf v ≡ d → (expires today d ≡ Kept) ↔ Keeps Expiry today v
 by-expiry today v (Is n) e = (there, back)
   where
@@ -76,8 +73,8 @@ value-exact Expiry today v b = by-expiry today v (dateOf v) refl
 value-exact Model today v b = by-test _ _ (same-exact v model)
 value-exact Application today v b = by-test _ _ (same-exact v application)
 value-exact Policy today v b = by-test _ _ (policy-exact v)
-value-exact Text today v b = by-test _ _ (printed-exact v)
-value-exact Date today v b = by-date v (dateOf v) refl
+value-exact Text today v b = by-test _ _ (plain-text-exact v)
+value-exact Date today v b = by-test _ _ (printed-exact v b)
 value-exact Fingers today v b = by-judge (judge (header fingers (length v)) 0 v) (fingers-exact v b)
 value-exact Face today v b = by-judge (judge (header face (length v)) 0 v) (face-exact v b)
 value-exact Certificate today v b = certificate-exact certificateDepth v b
@@ -98,10 +95,6 @@ of-test : (x : Fault) (b : Bool) → Only x (unless x b)
 of-test x true = tt
 of-test x false = refl
 
-of-date : (d : TextDate) → Only BadDate (dated d)
-of-date (Is n) = tt
-of-date Not = refl
-
 of-expiry : (today : ℕ) (d : TextDate) → Only BadDate (expires today d)
 of-expiry today (Is n) = of-test BadDate (inWindow today n)
 of-expiry today Not = refl
@@ -120,7 +113,7 @@ broken-exact Model today v b f = one-fault BadFixed f _ (of-test BadFixed (same 
 broken-exact Application today v b f = one-fault BadFixed f _ (of-test BadFixed (same v application)) (value-exact Application today v b)
 broken-exact Policy today v b f = one-fault BadFixed f _ (of-test BadFixed (isPolicy v)) (value-exact Policy today v b)
 broken-exact Text today v b f = one-fault BadText f _ (of-test BadText (isText v)) (value-exact Text today v b)
-broken-exact Date today v b f = one-fault BadDate f _ (of-date (dateOf v)) (value-exact Date today v b)
+broken-exact Date today v b f = one-fault BadDate f _ (of-test BadDate (isPrintedDate v)) (value-exact Date today v b)
 broken-exact Fingers today v b f = first-of (judge (header fingers (length v)) 0 v) f (first-broken-exact fingers v b f)
 broken-exact Face today v b f = first-of (judge (header face (length v)) 0 v) f (first-broken-exact face v b f)
 broken-exact Certificate today v b f = certificate-refused certificateDepth v f b

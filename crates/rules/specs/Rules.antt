@@ -1,4 +1,4 @@
--- 01, "Values", and request 2026-04: what each rule of the tables says of a value, under a date; and the fault that breaking it is.
+-- 01, "Values", and requests 2026-03 and 2026-04: what each rule of the tables says of a value, under a date; and the fault that breaking it is.
 use Prim.Native.Nat.{ℕ}
 use mathlib.Core.Path.{_≡_}
 use mathlib.Core.List.{List, [], _∷_}
@@ -14,7 +14,8 @@ use Rattle.kinds.specs.declared.ValueRule.{ValueRule}
 use Rattle.kinds.specs.declared.ValueRule.the-variants.{Free, Fascn, Uuid, Expiry, Model, Application, Policy, Text, Date, Fingers, Face, Certificate, CertInfo}
 use Rattle.fascn.specs.Fascn.{IsFascn}
 use Rattle.fascn.specs.Reading.{isFascn}
-use Rattle.dates.specs.Date.{IsTextOf, IsTextDate, InWindow, dateOf, inWindow}
+use Rattle.dates.specs.Date.{IsTextOf, InWindow, dateOf, inWindow}
+use Rattle.dates.specs.Printed.{IsPrintedDate, isPrintedDate}
 use Rattle.dates.specs.declared.Date.{Date as TextDate}
 use Rattle.dates.specs.declared.Date.the-variants.{Is, Not}
 use Rattle.plain.specs.Plain.{Uuid as IsUuid, isUuid, IsPolicy, isPolicy, Text as IsText, isText}
@@ -49,7 +50,7 @@ Keeps Model today v = v ≡ model
 Keeps Application today v = v ≡ application
 Keeps Policy today v = IsPolicy v
 Keeps Text today v = IsText v
-Keeps Date today v = IsTextDate v
+Keeps Date today v = IsPrintedDate v
 Keeps Fingers today v = IsBiometric fingers v
 Keeps Face today v = IsBiometric face v
 Keeps Certificate today v = IsCertificate certificateDepth v
@@ -79,10 +80,6 @@ abbrev pub expires : ℕ → TextDate → Ruling
 expires today (Is e) = unless BadDate (inWindow today e)
 expires today Not = Breaks BadDate
 
-abbrev pub dated : TextDate → Ruling
-dated (Is n) = Kept
-dated Not = Breaks BadDate
-
 abbrev pub tested : ValueRule → ℕ → List ℕ → Ruling
 tested Free today v = Kept
 tested Fascn today v = unless BadFascn (isFascn v)
@@ -92,7 +89,7 @@ tested Model today v = unless BadFixed (same v model)
 tested Application today v = unless BadFixed (same v application)
 tested Policy today v = unless BadFixed (isPolicy v)
 tested Text today v = unless BadText (isText v)
-tested Date today v = dated (dateOf v)
+tested Date today v = unless BadDate (isPrintedDate v)
 tested Fingers today v = ruled (judge (header fingers (length v)) 0 v)
 tested Face today v = ruled (judge (header face (length v)) 0 v)
 tested Certificate today v = certificate certificateDepth v

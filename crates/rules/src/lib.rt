@@ -1,7 +1,7 @@
 // The rule of a value, by its name in the tables.
 ghost use mathlib.Core.Path.{_≡_};
 ghost use Rattle.verdicts.specs.Verdicts.{unless};
-ghost use Rattle.rules.specs.Rules.{expires, dated, ruleOf};
+ghost use Rattle.rules.specs.Rules.{expires, ruleOf};
 use cbeff::face;
 use cbeff::fingers;
 use dates::Date;
@@ -29,16 +29,6 @@ fn expiry(today: u64, d: Date) -> Ruling
     }
 }
 
-// "The printed date only has to be a date."
-fn date(d: Date) -> Ruling
-    ensures { λ r. ⌜ r ≡ dated d ⌝ }
-{
-    match d {
-        Date::Is(_) => Ruling::Kept,
-        Date::Not => Ruling::Breaks(Fault::BadDate),
-    }
-}
-
 // Whether a value keeps the rule under the date today, or which fault it has. The judges of the biometric records and of
 // certificates stay calls: they get a part that is made for them, and their answer goes through a local, so that the compiler
 // keeps the value and the answer of every other rule in registers.
@@ -57,7 +47,7 @@ pub fn judge(rule: ValueRule, today: u64, v: &[u8]) -> Ruling
         ),
         ValueRule::Policy => unless(Fault::BadFixed, plain::is_policy(v)),
         ValueRule::Text => unless(Fault::BadText, plain::is_text(v)),
-        ValueRule::Date => date(dates::date_of(v)),
+        ValueRule::Date => unless(Fault::BadDate, dates::is_printed_date(v)),
         ValueRule::Fingers => {
             let answer = cbeff::judge(fingers(), &v[0..]);
             answer

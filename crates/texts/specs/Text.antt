@@ -1,17 +1,11 @@
 -- 01, "Sheets, views and the report": numbers as text. "Hex is upper case. Numbers are decimal without leading zeros, except today and expires (eight
 -- digits) and agency and system (four). Each line ends in 0A."
 use Prim.Native.Nat.{ℕ, zero, suc, _+_, _/_, _%_}
-use Prim.Native.Char.{code}
-use Prim.Native.String.{String, [] as empty, _∷_ as char-then}
 use mathlib.Core.Bool.{cond}
 use mathlib.Core.List.{List, [], _∷_, _++_, map}
 use lib.Dec.{ltb}
 use Rattle.laws.specs.Digits.{digits}
-
--- the bytes of an ASCII text
-abbrev pub ascii : String → List ℕ
-ascii empty = []
-ascii (char-then c s) = code c ∷ ascii s
+pub use Rattle.laws.specs.Ascii.{ascii}
 
 -- a digit 0 to 9, and 0 to 15, as a byte
 abbrev pub digit : ℕ → ℕ

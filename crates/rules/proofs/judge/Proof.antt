@@ -39,7 +39,7 @@ returns-8 c = rw (c .unless6 .ensures, c .before .is-text .ensures, c .before .b
 
 returns-9 : tie.Need-returns-9
 unfolding ruleOf
-returns-9 c = rw (c .date .ensures, c .before .date-of2 .ensures, c .before .before .enum-told9 .given .1)
+returns-9 c = rw (c .unless7 .ensures, c .before .is-printed-date .ensures, c .before .before .enum-told9 .given .1)
 
 returns-10 : tie.Need-returns-10
 unfolding ruleOf
@@ -61,7 +61,7 @@ returns-12 c =
 
 returns-13 : tie.Need-returns-13
 unfolding ruleOf
-returns-13 c = rw (c .unless7 .ensures, c .before .same3 .ensures, c .before .before .before .enum-told13 .given .1)
+returns-13 c = rw (c .unless8 .ensures, c .before .same3 .ensures, c .before .before .before .enum-told13 .given .1)
 
 pub judge-spec : {M : Type 1} → statement M
 judge-spec =
