@@ -133,10 +133,10 @@ ccc =
 
 -- a PRINTED with this printed date, and its sheet
 abbrev printed : List ℕ → List ℕ
-printed date = container 4 (some [] ∷ some [] ∷ some date ∷ some [] ∷ some (replicate 15 0x20) ∷ none ∷ none ∷ some [] ∷ [])
+printed text = container 4 (some [] ∷ some [] ∷ some text ∷ some [] ∷ some (replicate 15 0x20) ∷ none ∷ none ∷ some [] ∷ [])
 
 abbrev printedSheet : List ℕ → List ℕ
-printedSheet date = 0 ∷ 1 ∷ 0 ∷ 1 ∷ 0 ∷ (length date + 1) ∷ (date ++ (0 ∷ 1 ∷ 0 ∷ 16 ∷ (replicate 15 0x20 ++ (0 ∷ 0 ∷ 0 ∷ 0 ∷ 0 ∷ 1 ∷ []))))
+printedSheet text = 0 ∷ 1 ∷ 0 ∷ 1 ∷ 0 ∷ (length text + 1) ∷ (text ++ (0 ∷ 1 ∷ 0 ∷ 16 ∷ (replicate 15 0x20 ++ (0 ∷ 0 ∷ 0 ∷ 0 ∷ 0 ∷ 1 ∷ []))))
 
 abbrev security : List ℕ
 security = container 5 (some [] ∷ some [] ∷ some [] ∷ [])
