@@ -77,7 +77,7 @@ enum prosianek_number {
     PROSIANEK_ELEMENT_LENGTH = 16,  // the length of an element
     PROSIANEK_BAD_FASCN = 17,       // FASC-N
     PROSIANEK_BAD_UUID = 18,        // UUID
-    PROSIANEK_BAD_DATE = 19,        // a date in text, or an expiry outside its window
+    PROSIANEK_BAD_DATE = 19,        // a date in text (35: 20300131, 04: 2030JAN31), or an expiry outside its window
     PROSIANEK_BAD_FIXED = 20,       // another fixed value, or the policy
     PROSIANEK_BAD_HEADER = 21,      // CBEFF header
     PROSIANEK_BAD_MINUTIAE = 22,    // minutiae
