@@ -61,15 +61,14 @@ month-made n h = of (made monthNames 1 n)
   where
     of : Made monthNames 1 n (numberedFrom 1 monthNames n) → n ≡ letters (numberedFrom 1 monthNames n)
     of (inl e) = absurd (omega arith)
-    of (inr (k, e, f)) = let g : numberedFrom 1 monthNames n ≡ suc k = omega arith in rw (g) f
+    of (inr (k, e, f)) = let g : numberedFrom 1 monthNames n ≡ suc k = omega arith in rw g f
 
 -- three bytes are the letters of the month that their number has
 month-bytes : (s : List ℕ) → Bytes s → length s ≡ 3 → 1 ≤ monthNumber (value 256 s) → monthNumber (value 256 s) ≤ 12 → s ≡ monthName (monthNumber (value 256 s))
 month-bytes s b l low high =
-    let ten : 0 < 256 = omega arith in
     let m = monthNumber (value 256 s) in
     let e : m ≡ suc (m - 1) = omega arith in
-    let d : digits 256 3 (value 256 s) ≡ s = rw l at (digits-read 256 ten 0 s b) in
+    let d : digits 256 3 (value 256 s) ≡ s = rw l at (digits-read 256 (omega arith) 0 s b) in
     sym d ∙ ap (digits 256 3) (month-made (value 256 s) low) ∙ rw e (letters-bytes (m - 1) (omega arith))
 
 name-long : (month : ℕ) → month < 12 → length (monthName (suc month)) ≡ 3
