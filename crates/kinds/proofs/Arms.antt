@@ -77,6 +77,7 @@ certificates kind h p q =
 pub arm : {rows these : Table} {t tag : ℕ} → rows ≡ these → tag ≡ t → find 0 0 rows t ≡ find 0 0 these tag
 arm e q = ap₂ (find 0 0) e (sym q)
 
+-- a table's tags, in its order
 abbrev tags : Table → List ℕ
 tags [] = []
 tags (r ∷ rs) = r .tag ∷ tags rs

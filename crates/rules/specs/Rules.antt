@@ -57,8 +57,8 @@ Keeps Certificate today v = IsCertificate certificateDepth v
 Keeps CertInfo today v = v ≡ certInfo
 
 -- a value breaks a rule under the date today, with this fault: "17, 18, 19: FASC-N, UUID, text date (expiry window included)", "20: other fixed value or
--- policy", "23: text byte"; "21, 22: CBEFF header, minutiae" and a header's 17 "in field order". 2026-04: "24, DER item", "25, too deep", "71 other than
--- 00 is 20"
+-- policy", "23: text byte"; "21, 22: CBEFF header, minutiae" and a header's 17 "in field order". 2026-03: "19 for no date". 2026-04: "24, DER item",
+-- "25, too deep", "71 other than 00 is 20"
 abbrev pub Violates : ValueRule → ℕ → List ℕ → Fault → Type 0
 Violates Free today v f = ⊥
 Violates Fascn today v f = (Keeps Fascn today v → ⊥) × (f ≡ BadFascn)
