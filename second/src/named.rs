@@ -8,6 +8,7 @@ use crate::samples::{card, ccc, certificate, chuid, discovery, face, fingers, pr
 use crate::samples::{COMPRESSED, P256, RSA, UUID};
 use crate::{CONTAINER_MAX, SHEET_ROOM};
 
+mod dates;
 mod lengths;
 mod tags;
 
@@ -30,6 +31,7 @@ pub fn all() -> Vec<Group> {
         refused_sheets(),
         tags::all(),
         lengths::all(),
+        dates::all(),
         views(),
         reports(),
     ]
