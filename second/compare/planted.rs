@@ -1,12 +1,13 @@
 //! The comparison is tried itself: faults are planted in calls of every sort, one at a time, and each has to be seen at
 //! the byte where it was planted. So are the tags that a mistaken program would name, in calls on every fault of a container or
-//! a sheet, and the places that one would give which takes every length for one in fewest bytes.
+//! a sheet, the places that one would give which takes every length for one in fewest bytes, and the numbers of one that judges a
+//! printed date by another rule.
 
 use crate::trial::{call_text, native, Fault, Sort, Stretch, Trial, Wrong};
 use second::batch::{Answer, Call, Record};
 use second::card::{kind_of, length_at, walk};
 use second::generate::{fewest, Inputs, Rng};
-use second::{faults, lengths, tag_number, NO_TAG};
+use second::{dates, faults, lengths, tag_number, NO_TAG};
 use std::collections::BTreeMap;
 use std::ops::Range;
 
@@ -67,7 +68,10 @@ fn faults_before(stretch: &Stretch) -> Vec<Planted> {
 }
 
 /// The mistakes that are made in a number that is lent, each with the name of that.
-const MISTAKES: [(&str, &str); 12] = [
+const MISTAKES: [(&str, &str); 15] = [
+    ("number", "16 for no date"),
+    ("number", "23 for no date"),
+    ("number", "19 for a length"),
     ("tag", "0 for none"),
     ("tag", "none for 00"),
     ("tag", "none for a tag"),
@@ -157,6 +161,15 @@ fn mistaken_places(record: &Record, expected: &Answer) -> Vec<(&'static str, u64
     mistaken.into_iter().zip(both).filter(|(mistaken, right)| mistaken != right).map(|(mistaken, _)| mistaken).collect()
 }
 
+/// The numbers of a program that asks for eight characters of a printed date, takes it for a text, or asks for its length later.
+fn mistaken_numbers(record: &Record, expected: &Answer) -> Vec<(&'static str, u64)> {
+    match (record.kind, expected.tag, expected.number) {
+        (4, Some(0x04), 19) => vec![("16 for no date", 16), ("23 for no date", 23)],
+        (4, Some(0x04), 16) => vec![("19 for a length", 19)],
+        _ => Vec::new(),
+    }
+}
+
 /// Whether every other stretch stands between guards of at least 64 bytes.
 fn guarded(stretches: &[Stretch]) -> bool {
     let mut guards = stretches.iter().step_by(2);
@@ -204,10 +217,13 @@ impl Trying {
         Ok(())
     }
 
-    /// Plants each mistaken tag, place and offset of a call. Before that nothing is wrong, or it is told.
+    /// Plants each mistaken number, tag, place and offset of a call. Before that nothing is wrong, or it is told.
     fn plant_mistakes(&mut self, record: &Record) -> Result<(), Wrong> {
         let expected = record.answer();
         self.trial.run(record, &expected, &Fault::None)?;
+        for (how, number) in mistaken_numbers(record, &expected) {
+            self.plant_mistake(record, &expected, ("number", how), number, expected.number);
+        }
         for (how, tag) in mistaken_tags(record, &expected) {
             self.plant_mistake(record, &expected, ("tag", how), tag, tag_number(expected.tag));
         }
@@ -255,7 +271,7 @@ impl Trying {
             println!("  {}: {}", what, texts.join(" "));
         }
         let mistaken = |name, how| self.planted.get(&(how, name)).copied().unwrap_or_default();
-        for which in ["tag", "place", "offset"] {
+        for which in ["number", "tag", "place", "offset"] {
             let here = MISTAKES.iter().filter(|(name, _)| *name == which);
             let texts: Vec<String> = here.map(|&(name, how)| format!("{}: {}", how, mistaken(name, how))).collect();
             println!("  another {}, {}", which, texts.join(", "));
@@ -270,7 +286,7 @@ impl Trying {
 /// Plants the faults and gives whether all were seen.
 pub fn all_seen(seed: u64) -> bool {
     let mut trying = Trying { trial: Trial::new(!seed), rng: Rng::new(seed), planted: BTreeMap::new(), unseen: 0 };
-    let (made, with_faults) = (calls(seed), [faults::records(), lengths::records()].concat());
+    let (made, with_faults) = (calls(seed), [dates::records(), faults::records(), lengths::records()].concat());
     let planting = made.iter().map(|record| (record, true)).chain(with_faults.iter().map(|record| (record, false)));
     for (record, everywhere) in planting {
         let outcome = if everywhere { trying.plant(record) } else { trying.plant_mistakes(record) };
@@ -280,7 +296,7 @@ pub fn all_seen(seed: u64) -> bool {
         }
     }
     println!(
-        "faults planted in {} calls of every sort, and mistakes in {} calls on broken ones and longer forms, one at a time:",
+        "faults planted in {} calls of every sort, and mistakes in {} on dates, broken ones and longer forms, one at a time:",
         made.len(),
         with_faults.len()
     );

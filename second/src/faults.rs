@@ -326,7 +326,7 @@ fn broken_values(rule: Rule, value: &[u8]) -> Vec<Vec<u8>> {
         Rule::Fascn => vec![turned(0), turned(24)],
         Rule::Uuid => vec![vec![0; 16], vec![0xFF; 16]],
         Rule::Expiry => vec![b"20260228".to_vec(), b"20320302".to_vec(), b"20290229".to_vec()],
-        Rule::Date => vec![b"20300230".to_vec(), b"2030JAN1".to_vec()],
+        Rule::PrintedDate => vec![b"2030FEB30".to_vec(), b"2030jan31".to_vec()],
         Rule::Policy => vec![vec![0x60, 0x00], vec![0x00, 0x00]],
         Rule::Text if value.is_empty() => vec![vec![0x1F], vec![0x7F]],
         Rule::Text => [0x1F, 0x7F].map(|byte| [&value[1..], &[byte]].concat()).to_vec(),

@@ -3,7 +3,7 @@
 use crate::batch::{Call, Record, BYTES_MAX, ROOM_MAX};
 use crate::card::{self, all_kinds, Rule, LAST_KIND, ROWS_MAX};
 use crate::values::{self, fascn_encode, fascn_pack, fascn_values, is_date};
-use crate::{faults, lengths, trees, CONTAINER_MAX, NO_TAG, REPORT_MAX, SHEET_ROOM};
+use crate::{dates, faults, lengths, trees, CONTAINER_MAX, NO_TAG, REPORT_MAX, SHEET_ROOM};
 
 /// splitmix64.
 pub struct Rng(u64);
@@ -208,11 +208,12 @@ fn uuid(rng: &mut Rng) -> Vec<u8> {
     out
 }
 
-const YEARS: [u64; 20] =
+/// The first year and the last, leap years, years beside them, and centuries.
+pub const YEARS: [u64; 20] =
     [1, 4, 99, 100, 400, 1600, 1700, 1900, 1999, 2000, 2023, 2024, 2026, 2028, 2099, 2100, 2400, 9993, 9996, 9999];
 
 /// A date, often at a month's end.
-fn date(rng: &mut Rng) -> u64 {
+pub fn date(rng: &mut Rng) -> u64 {
     loop {
         let year = match rng.below(4) {
             0 => rng.pick(&YEARS),
@@ -251,7 +252,8 @@ fn today(rng: &mut Rng) -> u64 {
     }
 }
 
-fn eight(number: u64) -> Vec<u8> {
+/// A date, or another number, as eight digits.
+pub fn eight(number: u64) -> Vec<u8> {
     format!("{:08}", number).into_bytes()
 }
 
@@ -411,7 +413,7 @@ pub fn conforming_on(rng: &mut Rng, kind: u64, today: u64) -> Card {
             Rule::Fascn => fascn(rng),
             Rule::Uuid => uuid(rng),
             Rule::Expiry => eight(expiry(rng, today)),
-            Rule::Date => eight(date(rng)),
+            Rule::PrintedDate => dates::printed(rng),
             Rule::Policy => policy(rng),
             Rule::Text => rng.text(length),
             Rule::Fingers => {
@@ -517,7 +519,7 @@ pub fn personal_twin(rng: &mut Rng, card: &Card) -> Card {
         match row.rule {
             Rule::Any => *value = rng.bytes(value.len()),
             Rule::Uuid => *value = uuid(rng),
-            Rule::Date => *value = eight(date(rng)),
+            Rule::PrintedDate => *value = dates::printed(rng),
             Rule::Text if row.tag != 0x06 => *value = rng.text(value.len()),
             Rule::Fascn => *value = fascn_twin(rng, value),
             Rule::Fingers | Rule::Face => {
@@ -610,10 +612,11 @@ fn damage_uuid(rng: &mut Rng, bytes: &mut [u8]) {
     }
 }
 
-fn damage_digits(rng: &mut Rng, bytes: &mut [u8]) {
+/// Puts another byte in the place of one digit, or another digit.
+pub fn damage_digits(rng: &mut Rng, bytes: &mut [u8]) {
     if !bytes.is_empty() {
         let at = rng.below(bytes.len() as u64) as usize;
-        bytes[at] = rng.pick(&[0x2F, 0x30, 0x39, 0x3A, 0x20, 0x00, 0xB0, 0xFF, 0x2D]);
+        bytes[at] = rng.pick(&[0x2F, 0x30, 0x39, 0x3A, 0x20, 0x00, 0xB0, 0xFF, 0x2D, 0x4F]);
     }
 }
 
@@ -989,13 +992,7 @@ fn damage_value(rng: &mut Rng, card: &mut Card) {
             }
             Rule::Uuid => damage_uuid(rng, value),
             Rule::Expiry => damage_expiry(rng, value, today),
-            Rule::Date => {
-                if rng.one_in(4) {
-                    damage_digits(rng, value);
-                } else {
-                    *value = eight(nearly_date(rng));
-                }
-            }
+            Rule::PrintedDate => *value = dates::damaged(rng),
             Rule::Policy => match rng.below(3) {
                 0 => *value = vec![rng.byte(), rng.pick(&[0x00, 0x10, 0x20, 0x30])],
                 1 => {
@@ -1709,7 +1706,7 @@ pub fn small(kind: u64) -> Vec<u8> {
         2 => example_chuid(b"20300131"),
         3 => EXAMPLE_DISCOVERY.to_vec(),
         4 => {
-            let texts: [&[u8]; 5] = [b"ANN EXAMPLE", b"STAFF", b"20301231", b"0042", b"ISSUER 00000001"];
+            let texts: [&[u8]; 5] = [b"ANN EXAMPLE", b"STAFF", b"2030DEC31", b"0042", b"ISSUER 00000001"];
             let mut rows: Vec<_> = texts.iter().map(|text| Some(text.to_vec())).collect();
             rows.extend([None, None, Some(Vec::new())]);
             Card { kind, today: EXAMPLE_DAY, rows }.container()
@@ -1856,6 +1853,7 @@ fn fixed_records() -> Vec<Record> {
         out.push(Record { today, room: 512, fill: 0xA5, ..plain(Call::Report, 3, EXAMPLE_DISCOVERY.to_vec()) });
     }
     out.extend(fixed_certificates());
+    out.extend(dates::records());
     out.extend(faults::records());
     out.extend(lengths::records());
     out

@@ -5,6 +5,7 @@
 
 pub mod batch;
 pub mod card;
+pub mod dates;
 pub mod der;
 pub mod faults;
 pub mod generate;

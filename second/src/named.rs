@@ -8,6 +8,7 @@ use crate::samples::{card, ccc, certificate, chuid, discovery, face, fingers, pr
 use crate::samples::{COMPRESSED, P256, RSA, UUID};
 use crate::{CONTAINER_MAX, SHEET_ROOM};
 
+mod dates;
 mod lengths;
 mod tags;
 
@@ -30,6 +31,7 @@ pub fn all() -> Vec<Group> {
         refused_sheets(),
         tags::all(),
         lengths::all(),
+        dates::all(),
         views(),
         reports(),
     ]
@@ -127,6 +129,9 @@ fn encode(numbers: &[u64; 9], room: usize, outcome: Result<&[u8], u64>) -> Case 
 // The containers that several groups have
 
 const EXPIRES: &[u8] = b"20300131";
+
+/// The same day as a card's face has it.
+const PRINTED_DATE: &[u8] = b"2030JAN31";
 
 /// The smallest SECURITY.
 const SMALL: [u8; 8] = [0x53, 6, 0xBA, 0, 0xBB, 0, 0xFE, 0];
@@ -506,7 +511,7 @@ fn conforming() -> Vec<Group> {
                 conforms(ccc(0x10)),
                 conforms(case_r()),
                 conforms(discovery([0x40, 0])),
-                conforms(printed(b"AGENT", EXPIRES)),
+                conforms(printed(b"AGENT", PRINTED_DATE)),
                 conforms(security(&[1, 2], &[3; 200])),
                 conforms(fingers(100, b'0', [3, 5])),
                 conforms(face(100, 300, 40)),
@@ -571,13 +576,7 @@ fn broken() -> Vec<Group> {
                 with_length(&[0x85, 0, 0, 0, 0], 128),
             ],
         ),
-        (
-            "PRINTED with a byte 7F in 02, with the date 21000229",
-            vec![
-                breaks(printed(b"AGEN\x7F", EXPIRES), (23, 13, Some(0x02))),
-                breaks(printed(b"AGENT", b"21000229"), (19, 20, Some(0x04))),
-            ],
-        ),
+        ("PRINTED with a byte 7F in 02", vec![breaks(printed(b"AGEN\x7F", PRINTED_DATE), (23, 13, Some(0x02)))]),
     ]
 }
 
@@ -609,7 +608,7 @@ fn there_and_back() -> Vec<Group> {
         group("CCC checked and written", ccc(0x10)),
         group("CHUID checked and written", whole_chuid(&[0x30, 3, 1, 1, 0xFF])),
         group("DISCOVERY checked and written", discovery([0x60, 0x10])),
-        group("PRINTED checked and written", printed(b"AGENT", EXPIRES)),
+        group("PRINTED checked and written", printed(b"AGENT", PRINTED_DATE)),
         group("SECURITY checked and written", security(&[1, 2], &[3; 140])),
         group("FINGERS checked and written", fingers(100, b'0', [1, 2])),
         group("FACE checked and written", face(100, 3, 4)),
@@ -698,7 +697,7 @@ fn broken_into_rooms() -> Group {
             breaks(ccc(0x11), 20, 36, Some(0xF5)),
             breaks(chuid(&wrong_fascn(), EXPIRES, &[]), 17, 2, Some(0x30)),
             breaks(discovery([0x60, 0]), 20, 15, Some(0x5F2F)),
-            breaks(printed(b"AGENT", b"20300230"), 19, 20, Some(0x04)),
+            breaks(printed(b"AGENT", b"2030FEB30"), 19, 20, Some(0x04)),
             breaks(card(5, &[Some(&[]), Some(&[]), None]), 15, 6, None),
             breaks(fingers(100, 0, [3, 5]), 22, 3, Some(0xBC)),
             breaks(face(0xFF, 300, 40), 21, 4, Some(0xBC)),
@@ -907,9 +906,9 @@ fn reports() -> Vec<Group> {
         ),
         pair(
             "PRINTED reported, conforming and broken",
-            printed(b"AGENT", EXPIRES),
-            "ELEMENTS 6\n01 9\n02 5\n04 8\n05 4\n06 15\nFE 0\nOPEN 1\nissuer GENERIC SENDER \n",
-            printed(b"AGENT", b"20300230"),
+            printed(b"AGENT", PRINTED_DATE),
+            "ELEMENTS 6\n01 9\n02 5\n04 9\n05 4\n06 15\nFE 0\nOPEN 1\nissuer GENERIC SENDER \n",
+            printed(b"AGENT", b"2030FEB30"),
             "19 20 04",
         ),
         pair(

@@ -201,16 +201,9 @@ pub fn desk(input: &[u8]) -> Vec<u8> {
     }
 }
 
-/// The number that two ASCII digits make.
-fn two_digits(text: &[u8]) -> Option<u64> {
-    match *text {
-        [tens @ b'0'..=b'9', ones @ b'0'..=b'9'] => Some(u64::from(tens - b'0') * 10 + u64::from(ones - b'0')),
-        _ => None,
-    }
-}
-
 fn try_desk(input: &[u8], room: &mut [u8]) -> Result<u64, u64> {
-    let kind = input.get(..2).and_then(two_digits).filter(|&kind| card::kind_of(kind).is_some()).ok_or(number::KIND)?;
+    let kind =
+        input.get(..2).and_then(values::digits).filter(|&kind| card::kind_of(kind).is_some()).ok_or(number::KIND)?;
     let today = input.get(2..10).and_then(values::eight_digits).ok_or(number::TODAY)?;
     match report(kind, today, &input[10..], room) {
         (number::DONE, length) => Ok(length),

@@ -124,9 +124,9 @@ pub fn all() -> Vec<Sample> {
         sample("discovery", discovery([0x40, 0])),
         // a policy of 60 hex asks for 10 or 20 in the second byte
         sample("discovery-broken", discovery([0x60, 0])),
-        sample("printed", printed(b"AGENT", b"20300131")),
+        sample("printed", printed(b"AGENT", b"2030JAN31")),
         // 30 February
-        sample("printed-broken", printed(b"AGENT", b"20300230")),
+        sample("printed-broken", printed(b"AGENT", b"2030FEB30")),
         sample("security", security(&[1, 2], &[3; 140])),
         // the last element is missing
         sample("security-broken", card(5, &[Some(&[]), Some(&[]), None])),

@@ -138,7 +138,8 @@ pub fn is_uuid(bytes: &[u8]) -> bool {
     matches!(bytes[6] >> 4, 1 | 4 | 5) && bytes[8] >> 6 == 0b10
 }
 
-fn days(year: u64, month: u64) -> u64 {
+/// The days of a month, counted from 1 to 12.
+pub fn days(year: u64, month: u64) -> u64 {
     match month {
         4 | 6 | 9 | 11 => 30,
         2 if year % 4 == 0 && (year % 100 != 0 || year % 400 == 0) => 29,
@@ -156,10 +157,19 @@ pub fn is_date(date: u64) -> bool {
     is_calendar_day(date / 10_000, date / 100 % 100, date % 100)
 }
 
+/// The number that ASCII digits make.
+pub fn digits(text: &[u8]) -> Option<u64> {
+    if text.iter().all(u8::is_ascii_digit) {
+        Some(text.iter().fold(0, |sum, &c| sum * 10 + u64::from(c - b'0')))
+    } else {
+        None
+    }
+}
+
 /// The number that eight ASCII digits make.
 pub fn eight_digits(text: &[u8]) -> Option<u64> {
-    if text.len() == 8 && text.iter().all(u8::is_ascii_digit) {
-        Some(text.iter().fold(0, |sum, &c| sum * 10 + u64::from(c - b'0')))
+    if text.len() == 8 {
+        digits(text)
     } else {
         None
     }
@@ -173,6 +183,20 @@ pub fn text_date(text: &[u8]) -> Option<u64> {
 /// An expiry date of a card that is read today: not past, and at most six years ahead.
 pub fn is_expiry(text: &[u8], today: u64) -> bool {
     text_date(text).map_or(false, |date| today <= date && date <= today + 60_000)
+}
+
+/// The months as a card's face has them.
+pub const MONTHS: [[u8; 3]; 12] =
+    [*b"JAN", *b"FEB", *b"MAR", *b"APR", *b"MAY", *b"JUN", *b"JUL", *b"AUG", *b"SEP", *b"OCT", *b"NOV", *b"DEC"];
+
+/// A date as a card's face has it, such as 2030JAN31: four digits, three capitals JAN to DEC, two digits, a real date. It may lie
+/// in the past. The length (9) is judged before.
+pub fn is_printed_date(text: &[u8]) -> bool {
+    let month = MONTHS.iter().position(|month| text[4..7] == *month);
+    match (digits(&text[..4]), month, digits(&text[7..9])) {
+        (Some(year), Some(months_before), Some(day)) => is_calendar_day(year, months_before as u64 + 1, day),
+        _ => false,
+    }
 }
 
 /// The two bytes of the PIN usage policy; the length is judged before.

@@ -32,7 +32,7 @@ fn records_keep_to_the_limits() {
 #[test]
 fn every_number_occurs() {
     let mut tally = Tally::default();
-    for record in batch(4, 40_000) {
+    for record in batch(4, 45_000) {
         tally.count(record.call, &record.answer());
     }
     assert_eq!(tally.never(), []);

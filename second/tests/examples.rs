@@ -160,7 +160,7 @@ fn other_reports() {
     );
     assert_eq!(
         text(4, &small(4)),
-        "CARD 4\nkind PRINTED\nbytes 57\ntoday 00010101\nverdict 0 0 --\nELEMENTS 6\n01 11\n02 5\n04 8\n05 4\n06 15\nFE 0\nOPEN 1\nissuer ISSUER 00000001\n"
+        "CARD 4\nkind PRINTED\nbytes 58\ntoday 00010101\nverdict 0 0 --\nELEMENTS 6\n01 11\n02 5\n04 9\n05 4\n06 15\nFE 0\nOPEN 1\nissuer ISSUER 00000001\n"
     );
     assert_eq!(
         text(5, &small(5)),

@@ -28,7 +28,7 @@ fn numbers_of(rule: Rule) -> &'static [u64] {
         Rule::Any => &[],
         Rule::Fascn => &[17],
         Rule::Uuid => &[18],
-        Rule::Expiry | Rule::Date => &[19],
+        Rule::Expiry | Rule::PrintedDate => &[19],
         Rule::Exactly(_) | Rule::Policy => &[20],
         Rule::Text => &[23],
         Rule::Fingers => &[21, 17, 22],

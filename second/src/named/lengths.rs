@@ -403,7 +403,7 @@ fn there_and_fewest() -> Vec<Group> {
     };
     let mut ccc = ccc(0x10);
     ccc.rows[3] = Some(vec![5; 128]);
-    let mut printed = printed(b"AGENT", EXPIRES);
+    let mut printed = printed(b"AGENT", PRINTED_DATE);
     printed.rows[0] = Some(vec![b'A'; 125]);
     vec![
         group("CCC in the longest forms, written in the fewest bytes", ccc),

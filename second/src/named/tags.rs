@@ -205,7 +205,7 @@ fn missing_sections() -> Group {
         card.rows[row] = None;
         write(card.kind, &card.sheet(), 700, Err((15, place, Some(tag))))
     };
-    let (ccc, chuid, discovery, printed) = (ccc(0x10), case_r(), discovery([0x40, 0]), printed(b"AGENT", EXPIRES));
+    let (ccc, chuid, discovery, printed) = (ccc(0x10), case_r(), discovery([0x40, 0]), printed(b"AGENT", PRINTED_DATE));
     let (security, face, cardauth) = (security(&[1, 2], &[3]), face(100, 1, 1), certificate(11, &LEAST, 0, None));
     (
         "15 of a sheet names the row that is missing: the first, one in the middle and the last of a kind",
@@ -219,7 +219,7 @@ fn missing_sections() -> Group {
             without(&discovery, 0, 0, 0x4F),
             without(&discovery, 1, 13, 0x5F2F),
             without(&printed, 0, 0, 0x01),
-            without(&printed, 7, 55, 0xFE),
+            without(&printed, 7, 56, 0xFE),
             without(&security, 0, 0, 0xBA),
             without(&security, 2, 7, 0xFE),
             without(&face, 0, 0, 0xBC),
@@ -237,7 +237,7 @@ fn tags_of_sections() -> Group {
         card.rows[row] = Some(value.to_vec());
         write(card.kind, &card.sheet(), 700, Err((number, place, Some(tag))))
     };
-    let (ccc, chuid, discovery, printed) = (ccc(0x10), case_r(), discovery([0x40, 0]), printed(b"AGENT", EXPIRES));
+    let (ccc, chuid, discovery, printed) = (ccc(0x10), case_r(), discovery([0x40, 0]), printed(b"AGENT", PRINTED_DATE));
     (
         "16 and the rules of values name the row of a sheet, an optional one too",
         vec![
@@ -252,8 +252,8 @@ fn tags_of_sections() -> Group {
             with(&discovery, 1, &[0x60, 0], 20, 13, 0x5F2F),
             with(&discovery, 1, &[0x40], 16, 13, 0x5F2F),
             with(&printed, 1, &[0x7F], 23, 11, 0x02),
-            with(&printed, 2, b"20300230", 19, 18, 0x04),
-            with(&printed, 5, &[0], 23, 51, 0x07),
+            with(&printed, 2, b"2030FEB30", 19, 18, 0x04),
+            with(&printed, 5, &[0], 23, 52, 0x07),
         ],
     )
 }
