@@ -33,6 +33,17 @@ static const uint8_t discovery[20] = {
     0x7E, 0x12, 0x4F, 0x0B, 0xA0, 0x00, 0x00, 0x03, 0x08, 0x00, 0x00, 0x10, 0x00, 0x01, 0x00, 0x5F, 0x2F, 0x02, 0x40, 0x00,
 };
 
+// Printed information that conforms: the date 2030JAN31 in 04, which stands at 6, and an issuer of fifteen bytes. The same with
+// the date in eight digits.
+static const uint8_t printed[38] = {
+    0x53, 0x24, 0x01, 0x00, 0x02, 0x00, 0x04, 0x09, '2', '0', '3', '0', 'J', 'A', 'N', '3', '1', 0x05, 0x00, 0x06, 0x0F, 'I', 'S',
+    'S', 'U', 'E', 'R', '-', 'A', 'B', 'C', 'D', 'E', 'F', 'G', 'H', 0xFE, 0x00,
+};
+static const uint8_t eight_digits[37] = {
+    0x53, 0x23, 0x01, 0x00, 0x02, 0x00, 0x04, 0x08, '2', '0', '3', '0', '0', '1', '3', '1', 0x05, 0x00, 0x06, 0x0F, 'I', 'S',
+    'S', 'U', 'E', 'R', '-', 'A', 'B', 'C', 'D', 'E', 'F', 'G', 'H', 0xFE, 0x00,
+};
+
 static const uint8_t too_large[PROSIANEK_LARGEST_CONTAINER + 1];
 
 // What the calls are lent. The room is longer than any size that is lent of it, so that a byte written behind it shows.
@@ -205,6 +216,17 @@ static void certificates(uint64_t kind) {
     view("view, no 72", kind, TODAY, certificate, sizeof certificate, 0x72, PROSIANEK_NO_ELEMENT);
 }
 
+// A printed date that conforms, and the same with a byte changed; and one of another length.
+static void printed_dates(void) {
+    const uint64_t kind = PROSIANEK_PRINTED;
+    const size_t size = sizeof printed;
+    check("check, a printed date, no room", kind, TODAY, printed, size, 0, PROSIANEK_DONE);
+    breaks_at("a month jAN", kind, printed, size, 12, 'j', PROSIANEK_BAD_DATE, 6, 0x04);
+    breaks_at("a month JUN with 31 days", kind, printed, size, 13, 'U', PROSIANEK_BAD_DATE, 6, 0x04);
+    breaks_at("a year 2O30", kind, printed, size, 9, 'O', PROSIANEK_BAD_DATE, 6, 0x04);
+    breaks("a printed date of eight digits", kind, eight_digits, sizeof eight_digits, PROSIANEK_ELEMENT_LENGTH, 6, 0x04);
+}
+
 static void decode(const char *what, const uint8_t *bytes, size_t size) {
     stale();
     answers(what, prosianek_fascn_decode(bytes, size, numbers), PROSIANEK_BAD_FASCN);
@@ -270,6 +292,7 @@ int main(void) {
 
     elements();
     rows(sheet);
+    printed_dates();
     for (uint64_t kind = PROSIANEK_PIVAUTH; kind <= PROSIANEK_CARDAUTH; kind++) certificates(kind);
 
     // Each of the nine numbers with one digit too many; that comes before the room.
