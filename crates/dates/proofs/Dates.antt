@@ -8,6 +8,7 @@ use native.Mathlib.Omega.{arith}
 use lib.Dec.{leb, eqb}
 use lib.ListN.{length, length-map}
 use borrow.Author.Tests.{le-leb, leb-true, eq-eqb, eqb-true}
+use Rattle.laws.specs.Ascii.{fixed}
 use Rattle.laws.specs.Digits.{digits}
 use Rattle.laws.specs.Bytes.{Below}
 use Rattle.laws.specs.Tests.{each}
@@ -15,7 +16,7 @@ use Rattle.laws.proofs.Cases.{and-true, all-true, which}
 use Rattle.laws.proofs.Bases.{length-digits, below-digits, digits-append, value-digits, digits-read}
 use Rattle.dates.specs.declared.Date.the-variants.{Is, Not}
 use Rattle.dates.specs.Calendar.{Exists}
-use Rattle.dates.specs.Date.{dateNumber, IsDate, isDate, inDigits, dateText, IsTextOf, IsTextDate, isDigit, textNumber, dateOf}
+use Rattle.dates.specs.Date.{dateNumber, IsDate, isDate, dateText, IsTextOf, IsTextDate, isDigit, textNumber, dateOf}
 use Rattle.dates.proofs.Calendars.{exists-exact, days-most}
 
 -- ---- a date as a number of eight digits
@@ -46,7 +47,8 @@ date-exact n = (sound, complete)
 -- ---- "Eight ASCII digits"
 
 -- the digits of year, month and day in a row are the number's
-digits-date : (y m d : ℕ) → m < 100 → d < 100 → dateText y m d ≡ inDigits 8 (dateNumber y m d)
+digits-date : (y m d : ℕ) → m < 100 → d < 100 → dateText y m d ≡ fixed 8 (dateNumber y m d)
+unfolding fixed
 digits-date y m d g h =
     let e : dateNumber y m d ≡ (y * 100 + m) * 100 + d = omega arith in
     let p : 0 < 10 = omega arith in
@@ -78,7 +80,8 @@ forth (b ∷ s) e =
     (rw (q, r .0), (omega arith, r .1))
 
 -- eight digits are the text of the number that they make
-is-text : (s : List ℕ) → length s ≡ 8 → each isDigit s ≡ true → s ≡ inDigits 8 (textNumber s)
+is-text : (s : List ℕ) → length s ≡ 8 → each isDigit s ≡ true → s ≡ fixed 8 (textNumber s)
+unfolding fixed
 is-text s l e =
     let f = forth s e in
     let ten : 0 < 10 = omega arith in
@@ -86,8 +89,9 @@ is-text s l e =
     rw r (sym (f .0))
 
 -- and the text of a number of eight digits makes it
-text-is : (s : List ℕ) (n : ℕ) → s ≡ inDigits 8 n → n < 100000000
+text-is : (s : List ℕ) (n : ℕ) → s ≡ fixed 8 n → n < 100000000
     → (length s ≡ 8) × (each isDigit s ≡ true) × (textNumber s ≡ n)
+unfolding fixed
 text-is s n e h =
     let ten : 0 < 10 = omega arith in (
       rw (e, length-map) (length-digits 10 ten 8 n),
@@ -96,7 +100,7 @@ text-is s n e h =
     )
 
 -- a date's bytes are its number's eight digits
-text-of : (s : List ℕ) (n : ℕ) → IsTextOf s n → (s ≡ inDigits 8 n) × (n < 100000000)
+text-of : (s : List ℕ) (n : ℕ) → IsTextOf s n → (s ≡ fixed 8 n) × (n < 100000000)
 text-of s n (y, m, d, x, e, f) =
     let k = small x in
     (e ∙ rw (f, digits-date y m d (k .0) (k .1)), rw f (k .2))
@@ -142,6 +146,10 @@ text-not s = (sound, complete)
           | inl q ↦ absurd (h (textNumber s, text-exact s (textNumber s) .0 (rw q)))
           | inr q ↦ rw q
         ]
+
+-- a date's text has eight bytes
+pub date-long : {s : List ℕ} {n : ℕ} → IsTextOf s n → length s ≡ 8
+date-long {s} {n} r = let q = text-of s n r in text-is s n (q .0) (q .1) .0
 
 -- a date's number has at most eight digits
 pub eight-digits : (s : List ℕ) (n : ℕ) → IsTextOf s n → n < 100000000

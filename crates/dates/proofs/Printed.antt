@@ -8,6 +8,7 @@ use native.Mathlib.Omega.{arith}
 use lib.Dec.{eqb}
 use lib.ListN.{length, getD, drop}
 use borrow.Author.Tests.{le-leb, eq-eqb, eqb-true, ne-eqb}
+use Rattle.laws.specs.Ascii.{fixed}
 use Rattle.laws.specs.Bytes.{Bytes}
 use Rattle.laws.specs.Digits.{digits, value}
 use Rattle.laws.specs.Layout.{part, field}
@@ -17,8 +18,7 @@ use Rattle.laws.proofs.Cases.{which, all-true, at-each, agree, same-eq}
 use Rattle.laws.proofs.Bases.{below-take, below-drop, digits-append, value-digits, digits-read}
 use Rattle.laws.proofs.Layouts.{by-entries, part-long}
 use Rattle.dates.specs.Calendar.{Exists, exists}
-use Rattle.dates.specs.Date.{inDigits}
-use Rattle.dates.specs.Pairs.{twoDigits}
+use Rattle.dates.specs.Pairs.{twoDigits, pairAt, yearOf}
 use Rattle.dates.specs.Printed.{monthNames, monthName, printedText, IsPrintedDate, numberedFrom, monthNumber, isPrintedDate}
 use Rattle.dates.proofs.Calendars.{exists-exact}
 use Rattle.dates.proofs.Dates.{small}
@@ -104,26 +104,20 @@ digit-pair q r g h =
 
 -- nine characters, of which the middle three are these
 abbrev nine : ℕ → ℕ → ℕ → ℕ → ℕ → List ℕ
-nine year a b c day = inDigits 4 year ++ (a ∷ b ∷ c ∷ []) ++ inDigits 2 day
-
-abbrev yearOf : List ℕ → ℕ
-yearOf s = twoDigits (at s 0) (at s 1) * 100 + twoDigits (at s 2) (at s 3)
+nine year a b c day = fixed 4 year ++ (a ∷ b ∷ c ∷ []) ++ fixed 2 day
 
 abbrev monthOf : List ℕ → ℕ
 monthOf s = monthNumber (field s 4 3)
-
-abbrev dayOf : List ℕ → ℕ
-dayOf s = twoDigits (at s 7) (at s 8)
 
 -- the parts that some bytes are read as
 record ReadAs (s : List ℕ) (year month day : ℕ) : Type 0 where
   long : length s ≡ 9
   year-is : yearOf s ≡ year
   month-is : monthOf s ≡ month
-  day-is : dayOf s ≡ day
+  day-is : pairAt s 7 ≡ day
 
 read-nine : (y m d a b c : ℕ) → y < 10000 → d < 100 → monthNumber (value 256 (a ∷ b ∷ c ∷ [])) ≡ m → ReadAs (nine y a b c d) y m d
-unfolding digits
+unfolding fixed digits
 read-nine y m d a b c g h e =
     let v = value-digits 10 (omega arith) 4 y g in
     record {
@@ -143,12 +137,12 @@ read-text y m d x =
     let l : length (monthName m) ≡ 3 = rw e (name-long (m - 1) (omega arith)) in
     let n = by-entries 3 (monthName m) l in
     let t : printedText y m d ≡ nine y (at (monthName m) 0) (at (monthName m) 1) (at (monthName m) 2) d
-    = ap (λ (name : List ℕ). inDigits 4 y ++ name ++ inDigits 2 d) n in
+    = ap (λ (name : List ℕ). fixed 4 y ++ name ++ fixed 2 d) n in
     rw t (read-nine y m d _ _ _ (omega arith) (omega arith) (ap (λ (name : List ℕ). monthNumber (value 256 name)) (sym n) ∙ letters-month m (omega arith)))
 
 -- two digits, and four, are the text of the number that they are read as
-text-two : (a b : ℕ) → Pair a b → inDigits 2 (twoDigits a b) ≡ a ∷ b ∷ []
-unfolding digits
+text-two : (a b : ℕ) → Pair a b → fixed 2 (twoDigits a b) ≡ a ∷ b ∷ []
+unfolding fixed digits
 text-two a b p =
     let n = twoDigits a b in
     let i = p .is in
@@ -156,7 +150,8 @@ text-two a b p =
     let f : 48 + n / 1 % 10 ≡ b = omega arith in
     rw (e, f)
 
-text-four : (a b c d : ℕ) → Pair a b → Pair c d → inDigits 4 (twoDigits a b * 100 + twoDigits c d) ≡ a ∷ b ∷ c ∷ d ∷ []
+text-four : (a b c d : ℕ) → Pair a b → Pair c d → fixed 4 (twoDigits a b * 100 + twoDigits c d) ≡ a ∷ b ∷ c ∷ d ∷ []
+unfolding fixed
 text-four a b c d p q =
     let i = q .is in
     let e = digits-append 10 (omega arith) 2 2 (twoDigits a b) (twoDigits c d) (omega arith) in
@@ -166,7 +161,7 @@ text-four a b c d p q =
 parts-of : (s : List ℕ) → length s ≡ 9 → s ≡ (at s 0 ∷ at s 1 ∷ at s 2 ∷ at s 3 ∷ []) ++ part s 4 3 ++ (at s 7 ∷ at s 8 ∷ [])
 parts-of s l = rw (by-entries 9 s l)
 
-text-back : (s : List ℕ) → Bytes s → length s ≡ 9 → Exists (yearOf s) (monthOf s) (dayOf s) → s ≡ printedText (yearOf s) (monthOf s) (dayOf s)
+text-back : (s : List ℕ) → Bytes s → length s ≡ 9 → Exists (yearOf s) (monthOf s) (pairAt s 7) → s ≡ printedText (yearOf s) (monthOf s) (pairAt s 7)
 text-back s b l x =
     let k = small x in
     let p = two-back (at s 0) (at s 1) (omega arith) in
@@ -185,9 +180,9 @@ printed-exact s b = (sound, complete)
   where
     sound : isPrintedDate s ≡ true → IsPrintedDate s
     sound e =
-        let t = all-true (eqb (length s) 9 ∷ exists (yearOf s) (monthOf s) (dayOf s) ∷ []) e in
+        let t = all-true (eqb (length s) 9 ∷ exists (yearOf s) (monthOf s) (pairAt s 7) ∷ []) e in
         let x = exists-exact _ _ _ .0 (t 1) in
-        (yearOf s, monthOf s, dayOf s, x, text-back s b (eqb-true _ _ (t 0)) x)
+        (yearOf s, monthOf s, pairAt s 7, x, text-back s b (eqb-true _ _ (t 0)) x)
 
     complete : IsPrintedDate s → isPrintedDate s ≡ true
     complete (y, m, d, x, e) =
@@ -207,6 +202,6 @@ pub other-length : (s : List ℕ) → (length s ≡ 9 → ⊥) → false ≡ isP
 unfolding isPrintedDate
 other-length s h = rw (ne-eqb _ _ h)
 
-pub nine-read : (s : List ℕ) → length s ≡ 9 → exists (yearOf s) (monthOf s) (dayOf s) ≡ isPrintedDate s
+pub nine-read : (s : List ℕ) → length s ≡ 9 → exists (yearOf s) (monthOf s) (pairAt s 7) ≡ isPrintedDate s
 unfolding isPrintedDate
 nine-read s l = rw (eq-eqb _ _ l)

@@ -12,7 +12,7 @@ use Rattle.laws.proofs.Cases.{and-true, which, each-at}
 use Rattle.dates.specs.declared.Date.the-variants.{Is, Not}
 use Rattle.dates.specs.Calendar.{exists}
 use Rattle.dates.specs.Date.{dateNumber, isDate, isDigit, textNumber, dateOf}
-use Rattle.dates.specs.Pairs.{twoDigits}
+use Rattle.dates.specs.Pairs.{twoDigits, pairAt, yearOf}
 use Rattle.laws.proofs.Layouts.{by-entries}
 use Rattle.dates.proofs.Calendars.{exists-exact}
 use Rattle.dates.proofs.Dates.{digit, parts, small}
@@ -50,17 +50,8 @@ two-back a b h =
 abbrev pub at : List ℕ → ℕ → ℕ
 at s k = getD s k 0
 
-abbrev year : List ℕ → ℕ
-year s = twoDigits (at s 0) (at s 1) * 100 + twoDigits (at s 2) (at s 3)
-
-abbrev month : List ℕ → ℕ
-month s = twoDigits (at s 4) (at s 5)
-
-abbrev day : List ℕ → ℕ
-day s = twoDigits (at s 6) (at s 7)
-
 abbrev found : List ℕ → Bool
-found s = exists (year s) (month s) (day s)
+found s = exists (yearOf s) (pairAt s 4) (pairAt s 6)
 
 module _ (s : List ℕ) (l : length s ≡ 8) where
   pairs : each isDigit s ≡ true → Pair (at s 0) (at s 1) × Pair (at s 2) (at s 3) × Pair (at s 4) (at s 5) × Pair (at s 6) (at s 7)
@@ -70,20 +61,20 @@ module _ (s : List ℕ) (l : length s ≡ 8) where
       two k h = pair (at s k) (at s (k + 1)) (each-at isDigit s k e (omega arith)) (each-at isDigit s (k + 1) e (omega arith))
 
   -- digits make the number of this year, month and day
-  number-is : each isDigit s ≡ true → textNumber s ≡ dateNumber (year s) (month s) (day s)
+  number-is : each isDigit s ≡ true → textNumber s ≡ dateNumber (yearOf s) (pairAt s 4) (pairAt s 6)
   number-is e = let (p, q, r, t) = pairs e in ap textNumber (by-entries 8 s l) ∙ omega arith
 
   same-date : each isDigit s ≡ true → isDate (textNumber s) ≡ found s
   unfolding isDate
   same-date e =
       let (p, q, r, t) = pairs e in
-      let (y, m, d) = parts (year s) (month s) (day s) (omega arith) (omega arith) in
+      let (y, m, d) = parts (yearOf s) (pairAt s 4) (pairAt s 6) (omega arith) (omega arith) in
       rw (number-is e, y, m, d)
 
   -- where they make a date, they are digits
   all-digits : found s ≡ true → each isDigit s ≡ true
   all-digits e =
-      let x = exists-exact (year s) (month s) (day s) .0 e in
+      let x = exists-exact (yearOf s) (pairAt s 4) (pairAt s 6) .0 e in
       let k = small x in
       let p = two-back (at s 0) (at s 1) (omega arith) in
       let q = two-back (at s 2) (at s 3) (omega arith) in
@@ -91,7 +82,7 @@ module _ (s : List ℕ) (l : length s ≡ 8) where
       let t = two-back (at s 6) (at s 7) (omega arith) in
       rw (by-entries 8 s l, p .0, p .1, q .0, q .1, r .0, r .1, t .0, t .1)
 
-  read-true : found s ≡ true → Is (dateNumber (year s) (month s) (day s)) ≡ dateOf s
+  read-true : found s ≡ true → Is (dateNumber (yearOf s) (pairAt s 4) (pairAt s 6)) ≡ dateOf s
   unfolding dateOf
   read-true e =
       let g : each isDigit s ≡ true = all-digits e in

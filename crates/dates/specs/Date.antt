@@ -5,7 +5,8 @@ use mathlib.Core.Bool.{Bool, cond, _&&_}
 use mathlib.Core.List.{List, _++_, map}
 use lib.Dec.{leb, eqb}
 use lib.ListN.{length}
-use Rattle.laws.specs.Digits.{digits, value}
+use Rattle.laws.specs.Ascii.{fixed}
+use Rattle.laws.specs.Digits.{value}
 use Rattle.laws.specs.Tests.{each}
 use Rattle.dates.specs.Calendar.{Exists, exists}
 use Rattle.dates.specs.declared.Date.{Date}
@@ -26,12 +27,8 @@ isDate n = exists (n / 10000) (n / 100 % 100) (n % 100)
 
 -- ---- "Eight ASCII digits"
 
--- the last w decimal digits of n, as ASCII
-abbrev pub inDigits : ℕ → ℕ → List ℕ
-inDigits w n = map (λ d. 48 + d) (digits 10 w n)
-
 abbrev pub dateText : ℕ → ℕ → ℕ → List ℕ
-dateText year month day = inDigits 4 year ++ inDigits 2 month ++ inDigits 2 day
+dateText year month day = fixed 4 year ++ fixed 2 month ++ fixed 2 day
 
 -- these bytes are a date, and as a number it is n
 abbrev pub IsTextOf : List ℕ → ℕ → Type 0

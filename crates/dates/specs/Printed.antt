@@ -1,16 +1,15 @@
 -- 2026-03: "Element 04 now has length 9: four digits, three capitals JAN to DEC, two digits, a real date."
-use Prim.Native.Nat.{ℕ, suc, _+_, _*_}
+use Prim.Native.Nat.{ℕ, suc}
 use mathlib.Core.Path.{_≡_}
 use mathlib.Core.Bool.{Bool, cond, _&&_}
 use mathlib.Core.List.{List, [], _∷_, _++_}
 use lib.Dec.{eqb}
 use lib.ListN.{length, getD}
-use Rattle.laws.specs.Ascii.{ascii}
+use Rattle.laws.specs.Ascii.{ascii, fixed}
 use Rattle.laws.specs.Digits.{value}
 use Rattle.laws.specs.Layout.{field}
 use Rattle.dates.specs.Calendar.{Exists, exists}
-use Rattle.dates.specs.Date.{inDigits}
-use Rattle.dates.specs.Pairs.{twoDigits}
+use Rattle.dates.specs.Pairs.{pairAt, yearOf}
 
 -- "three capitals JAN to DEC": the months' letters, in the year's order
 abbrev pub monthNames : List (List ℕ)
@@ -24,7 +23,7 @@ monthName month = getD ([] ∷ monthNames) month []
 
 -- "four digits, three capitals JAN to DEC, two digits"
 abbrev pub printedText : ℕ → ℕ → ℕ → List ℕ
-printedText year month day = inDigits 4 year ++ monthName month ++ inDigits 2 day
+printedText year month day = fixed 4 year ++ monthName month ++ fixed 2 day
 
 -- "a real date": there are a year, a month and a day that exist, and these bytes are their nine characters
 abbrev pub IsPrintedDate : List ℕ → Type 0
@@ -43,6 +42,4 @@ monthNumber n = numberedFrom 1 monthNames n
 
 -- nine bytes, which read as a year, a month and a day that exist
 unfoldable pub isPrintedDate : List ℕ → Bool
-isPrintedDate s =
-    eqb (length s) 9
-    && exists (twoDigits (getD s 0 0) (getD s 1 0) * 100 + twoDigits (getD s 2 0) (getD s 3 0)) (monthNumber (field s 4 3)) (twoDigits (getD s 7 0) (getD s 8 0))
+isPrintedDate s = eqb (length s) 9 && exists (yearOf s) (monthNumber (field s 4 3)) (pairAt s 7)

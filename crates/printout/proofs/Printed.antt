@@ -12,14 +12,13 @@ use lib.Dec.{leb}
 use lib.ListN.{length, take, drop, length-append}
 use lib.Seq.{take-all, take-at, drop-at, take-append-add, length-take-le, take-take}
 use borrow.Author.Tests.{leb-true, leb-false, le-leb, lt-leb}
-use Rattle.laws.specs.Digits.{digits}
 use Rattle.laws.proofs.Cases.{which, not-so, and-is, and-true}
 use Rattle.texts.specs.Text.{ascii, digit}
 use Rattle.texts.proofs.Bounds.{decimal-length}
-use Rattle.dates.specs.Date.{IsTextOf, IsTextDate, isDigit, dateOf}
+use Rattle.dates.specs.Date.{IsTextDate, isDigit, dateOf}
 use Rattle.dates.specs.declared.Date.{Date}
 use Rattle.dates.specs.declared.Date.the-variants.{Is, Not}
-use Rattle.dates.proofs.Dates.{digit as digit-bounds, text-exact, text-not}
+use Rattle.dates.proofs.Dates.{digit as digit-bounds, text-exact, text-not, date-long}
 use Rattle.kinds.specs.Tables.{IsKind, isKind}
 use Rattle.verdicts.specs.Verdicts.{numberOf}
 use Rattle.verdicts.specs.declared.Fault.{Fault}
@@ -54,10 +53,6 @@ text-fits s room =
     go (Is today) = shown-short (kindOf s) today (drop 10 s) room
 
 -- ---- an input that asks for a container of a kind under a date
-
-date-long : {s : List ℕ} {n : ℕ} → IsTextOf s n → length s ≡ 8
-unfolding digits
-date-long (y, m, d, x, e, f) = ap length e
 
 as-written : (kindText 2 ≡ ascii "02") × (kindText 11 ≡ ascii "11")
 as-written = (refl, refl)

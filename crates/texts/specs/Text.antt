@@ -2,21 +2,14 @@
 -- digits) and agency and system (four). Each line ends in 0A."
 use Prim.Native.Nat.{ℕ, zero, suc, _+_, _/_, _%_}
 use mathlib.Core.Bool.{cond}
-use mathlib.Core.List.{List, [], _∷_, _++_, map}
+use mathlib.Core.List.{List, [], _∷_, _++_}
 use lib.Dec.{ltb}
-use Rattle.laws.specs.Digits.{digits}
-pub use Rattle.laws.specs.Ascii.{ascii}
+pub use Rattle.laws.specs.Ascii.{ascii, digit}
+unfoldable pub use Rattle.laws.specs.Ascii.{fixed}
 
--- a digit 0 to 9, and 0 to 15, as a byte
-abbrev pub digit : ℕ → ℕ
-digit d = 48 + d
-
+-- a digit 0 to 15 as a byte
 abbrev pub hexDigit : ℕ → ℕ
 hexDigit d = cond (ltb d 10) (48 + d) (55 + d)
-
--- the last w decimal digits of n
-unfoldable pub fixed : ℕ → ℕ → List ℕ
-fixed w n = map digit (digits 10 w n)
 
 -- n without leading zeros, for an n below 10 ^ (f + 1)
 abbrev pub decimalIn : ℕ → ℕ → List ℕ
