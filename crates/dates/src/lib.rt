@@ -20,42 +20,43 @@ pub enum Moment {
     Never,
 }
 
-// The days of each month of a common year, the first at 1.
-const MONTH_LENGTHS: [u8; 13] = [0, 31, 28, 31, 30, 31, 30, 31, 31, 30, 31, 30, 31];
+// The months that the calendar's rule names.
+const JANUARY: u64 = 1;
 
+const FEBRUARY: u64 = 2;
+
+const AUGUST: u64 = 8;
+
+const DECEMBER: u64 = 12;
+
+// Every fourth year is a leap year, of the hundreds only every fourth.
 fn is_leap(year: u64) -> bool
     ensures { λ r. ⌜ r ≡ leap year ⌝ }
 {
     (year % 4 == 0) & (year % 100 != 0) | (year % 400 == 0)
 }
 
-// How many days a month of a year has; none, if there is no such month.
+// How many days a month of a year has; none, if there is no such month. The calendar's rule: the months alternate between 31
+// and 30 days, starting again with 31 in August; only February has 28, in a leap year 29.
 fn days_in(year: u64, month: u64) -> u64
     ensures { λ r. ⌜ r ≡ daysIn year month ⌝ }
 {
-    if 12 < month {
+    if !((JANUARY <= month) & (month <= DECEMBER)) {
         return 0;
     }
-    let days = numbers::wide(MONTH_LENGTHS[month as usize]);
-    if month != 2 {
-        return days;
+    if month == FEBRUARY {
+        return if is_leap(year) { 29 } else { 28 };
     }
-    if is_leap(year) {
-        return days + 1;
-    }
-    days
+    // From January, and again from August, every second month has 31 days.
+    let first = if month < AUGUST { JANUARY } else { AUGUST };
+    if (month - first) % 2 == 0 { 31 } else { 30 }
 }
 
-// "year 0001 to 9999, Gregorian"
+// "year 0001 to 9999, Gregorian". A month that there is not has no days, so none of them exists.
 fn exists(year: u64, month: u64, day: u64) -> bool
     ensures { λ r. ⌜ r ≡ exists year month day ⌝ }
 {
-    (1 <= year)
-        & (year <= 9999)
-        & (1 <= month)
-        & (month <= 12)
-        & (1 <= day)
-        & (day <= days_in(year, month))
+    (1 <= year) & (year <= 9999) & (1 <= day) & (day <= days_in(year, month))
 }
 
 // "Calls take today as a number": is it a date's?

@@ -1,32 +1,55 @@
--- `dates::days_in` meets its contract. Assumes nothing.
-use mathlib.Core.Path.{sym, _∙_}
+-- `dates::days_in` meets its contract: each step is a sentence of the calendar's rule. Assumes nothing.
+use Prim.Native.Nat.{_≤_, _-_}
+use mathlib.Core.Path.{_≡_, sym, _∙_}
+use mathlib.Core.Logic.{inl, inr}
+use native.Mathlib.Omega.{arith}
 use borrow.Author.Needs.{needs}
-use Rattle.dates.proofs.Calendars.{no-month, not-february, leap-february, common-february}
+use borrow.Author.Tests.{leb-true, not-true, not-false}
+use Rattle.laws.proofs.Cases.{and-true}
+use Rattle.dates.specs.Calendar.{daysIn}
+use Rattle.dates.proofs.Calendars.{no-month, common-february, leap-february, alternating, has-31, has-30, from-january, from-august}
 use Rattle.dates.proofs.days_in.Statement.{statement}
 use Rattle.dates.proofs.days_in.Tie as tie
 
+returns : tie.Need-returns
+returns c = no-month _ _ (not-true _ (c .if1 .taken))
+
 returns-2 : tie.Need-returns-2
-returns-2 c = c .before .wide .ensures .0 ∙ not-february _ _ (c .if2 .taken)
+returns-2 c = leap-february _ _ (c .before .before .if2 .taken) (sym (c .before .is-leap .ensures) ∙ c .if3 .taken)
 
 returns-3 : tie.Need-returns-3
-returns-3 c =
-    let k = c .before .before in
-    leap-february _ _ _ (k .before .wide .ensures .0) (k .if2 .left) (sym (c .before .is-leap .ensures) ∙ c .if3 .taken)
+returns-3 c = common-february _ _ (c .before .before .if2 .taken) (sym (c .before .is-leap .ensures) ∙ c .if3 .left)
+
+-- the month is one of the twelve
+one-of-twelve : (c : tie.Else1) → (1 ≤ c .before .args .month) × (c .before .args .month ≤ 12)
+one-of-twelve c = let b = and-true _ _ (not-false _ (c .if1 .left)) in (leb-true _ _ (b .0), leb-true _ _ (b .1))
+
+sub-if5 : tie.Need-sub-if5
+sub-if5 c =
+    let j = c .before in
+    let b = one-of-twelve (j .before .before) in
+    elim (j .if4 .came) [
+      | inl w ↦ let e = w .1 in omega arith
+      | inr w ↦ let e = w .1 in let h = w .0 .left in omega arith
+    ]
+
+-- it is as long as the alternation has it that starts where the code starts it
+alternates : (c : tie.Joined4) →
+    let a = c .before .before .before .args in
+    alternating (a .month - c .if4 .first) ≡ daysIn (a .year) (a .month)
+alternates c =
+    let b = one-of-twelve (c .before .before) in
+    elim (c .if4 .came) [
+      | inl w ↦ let h = w .0 .taken in rw (w .1) (from-january _ _ (omega arith) (omega arith) (c .before .if2 .left))
+      | inr w ↦ let h = w .0 .left in rw (w .1) (from-august _ _ (omega arith) (omega arith))
+    ]
 
 returns-4 : tie.Need-returns-4
-returns-4 c =
-    let k = c .before .before in
-    common-february _ _ _ (k .before .wide .ensures .0) (k .if2 .left) (sym (c .before .is-leap .ensures) ∙ c .if3 .left)
+returns-4 c = has-31 _ (c .if5 .taken) ∙ alternates (c .before .before)
+
+returns-5 : tie.Need-returns-5
+returns-5 c = has-30 _ (c .if5 .left) ∙ alternates (c .before .before)
 
 pub days-in-spec : {M : Type 1} → statement M
 days-in-spec =
-    tie.close
-    (tie.spec
-    (λ c. no-month _ _ (c .if1 .taken))
-    (λ c. search needs)
-    (λ c κs. search needs)
-    returns-2
-    (λ c κs. search needs)
-    (λ c. search needs)
-    returns-3
-    returns-4)
+    tie.close (tie.spec returns (λ c κs. search needs) returns-2 returns-3 sub-if5 returns-4 returns-5)
