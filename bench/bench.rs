@@ -9,7 +9,7 @@
 
 use second::card::{all_kinds, kind_of, Rule, CONFORMS};
 use second::generate::{certificate_kinds, endless_row, Card, Form, Forms, LONGEST_FORM};
-use second::tag_number;
+use second::{number, tag_number};
 use second::trees::{certificate_of_pairs, Tree};
 use std::arch::asm;
 use std::ops::{Deref, DerefMut};
@@ -110,9 +110,12 @@ struct Case {
     name: &'static str,
     call: Call,
     kind: u64,
+    today: u64,
     input: Bytes,
     numbers: [u64; 9],
     room: usize,
+    /// The number that both have to answer.
+    number: u64,
 }
 
 /// Bytes that start at a multiple of 64: what memcpy and memset take depends on where they start.
@@ -148,16 +151,16 @@ impl DerefMut for Bytes {
 
 /// The numbers that Prosianek answers; 0 for those that the call does not have.
 fn prosianek(case: &Case, room: &mut [u8], meter: &mut impl Meter) -> Vec<u64> {
-    let (kind, input, size) = (case.kind, case.input.as_ptr(), case.input.len());
+    let (kind, today, input, size) = (case.kind, case.today, case.input.as_ptr(), case.input.len());
     let (to, room_size) = (room.as_mut_ptr(), room.len());
     let (mut place, mut tag, mut short, mut length, mut numbers) = (0, 0, 0, 0, [0; 9]);
     let (p, t): (*mut u64, *mut u64) = (&mut place, &mut tag);
     let (s, l): (*mut u64, *mut u64) = (&mut short, &mut length);
     let number = unsafe {
         match case.call {
-            Call::Check => meter.measure(|| prosianek_check(kind, TODAY, input, size, to, room_size, p, t, s, l)),
-            Call::Write => meter.measure(|| prosianek_write(kind, TODAY, input, size, to, room_size, p, t, l)),
-            Call::Report => meter.measure(|| prosianek_report(kind, TODAY, input, size, to, room_size, l)),
+            Call::Check => meter.measure(|| prosianek_check(kind, today, input, size, to, room_size, p, t, s, l)),
+            Call::Write => meter.measure(|| prosianek_write(kind, today, input, size, to, room_size, p, t, l)),
+            Call::Report => meter.measure(|| prosianek_report(kind, today, input, size, to, room_size, l)),
             Call::Decode => meter.measure(|| prosianek_fascn_decode(input, size, &mut numbers)),
             Call::Encode => meter.measure(|| prosianek_fascn_encode(&case.numbers, to, room_size)),
         }
@@ -167,19 +170,19 @@ fn prosianek(case: &Case, room: &mut [u8], meter: &mut impl Meter) -> Vec<u64> {
 
 /// The numbers that the Rust program answers, in the same layout.
 fn rust(case: &Case, room: &mut [u8], meter: &mut impl Meter) -> Vec<u64> {
-    let (kind, input) = (case.kind, &case.input[..]);
+    let (kind, today, input) = (case.kind, case.today, &case.input[..]);
     let mut numbers = [0; 9];
     let (number, place, tag, short, length) = match case.call {
         Call::Check => {
-            let checked = meter.measure(|| second::check(kind, TODAY, input, room));
+            let checked = meter.measure(|| second::check(kind, today, input, room));
             (checked.number, checked.place, tag_number(checked.tag), checked.room, checked.length)
         }
         Call::Write => {
-            let ((number, place, tag), length) = meter.measure(|| second::write(kind, TODAY, input, room));
+            let ((number, place, tag), length) = meter.measure(|| second::write(kind, today, input, room));
             (number, place, tag_number(tag), 0, length)
         }
         Call::Report => {
-            let (number, length) = meter.measure(|| second::report(kind, TODAY, input, room));
+            let (number, length) = meter.measure(|| second::report(kind, today, input, room));
             (number, 0, 0, 0, length)
         }
         Call::Decode => {
@@ -192,16 +195,16 @@ fn rust(case: &Case, room: &mut [u8], meter: &mut impl Meter) -> Vec<u64> {
     [&[number, place, tag, short, length], &numbers[..]].concat()
 }
 
-/// Both answer 0 and the same, and leave the same in rooms that held something before. A check without a room, and no other call,
-/// has a 3 beside its 0.
+/// Both answer the same, with the number that is expected, and leave the same in rooms that held something before. A check without
+/// a room, and no other call, has a 3 beside its 0.
 fn agree(case: &Case) {
     let (mut one, mut other) = (Bytes::filled(0xA5, case.room), Bytes::filled(0x5A, case.room));
     let answers = (prosianek(case, &mut one, &mut Made), rust(case, &mut other, &mut Made));
     assert!(answers.0 == answers.1 && one[..] == other[..], "{} {}: the answers differ: {:?}", case.what, case.name, answers);
-    let short = if case.name == NO_ROOM { 3 } else { 0 };
+    let short = if case.name == NO_ROOM && case.number == 0 { 3 } else { 0 };
     let tag = if matches!(case.call, Call::Check | Call::Write) { second::NO_TAG } else { 0 };
     let said = &answers.0[..4];
-    assert!(said == [0, 0, tag, short], "{} {}: refused with {:?}", case.what, case.name, said);
+    assert!(said == [case.number, 0, tag, short], "{} {}: answered {:?}", case.what, case.name, said);
 }
 
 // ---------------------------------------------------------------------------------------------
@@ -330,9 +333,11 @@ fn container_cases(what: &str, kind: u64, container: &[u8]) -> Vec<Case> {
         name,
         call,
         kind,
+        today: TODAY,
         input: Bytes::of(input),
         numbers: [0; 9],
         room,
+        number: 0,
     };
     vec![
         case(NO_ROOM, Call::Check, container, 0),
@@ -371,11 +376,34 @@ fn fascn_cases() -> Vec<Case> {
         name,
         call,
         kind: CHUID,
+        today: TODAY,
         input: Bytes::of(fascn),
         numbers,
         room,
+        number: 0,
     };
     vec![case("decode", Call::Decode, 0), case("encode", Call::Encode, fascn.len())]
+}
+
+/// The check of a container of no bytes, which ends behind the date check: that the outer tag is missing is said under a day that
+/// exists, and that there is no such date under any other. The days are the last of each month and, of some, the day after it.
+fn day_cases() -> Vec<Case> {
+    let case = |day: &str, number| Case {
+        what: format!("no bytes, {}", day),
+        name: NO_ROOM,
+        call: Call::Check,
+        kind: CHUID,
+        today: day.replace('-', "").parse().unwrap(),
+        input: Bytes::of(&[]),
+        numbers: [0; 9],
+        room: 0,
+        number,
+    };
+    let days = ["01-31", "02-28", "03-31", "04-30", "05-31", "06-30", "07-31", "08-31", "09-30", "10-31", "11-30", "12-31"];
+    let last = days.iter().map(|day| case(&format!("2026-{}", day), number::OUTER_TAG));
+    let leap = ["2028-02-29", "2100-02-28"].iter().map(|day| case(day, number::OUTER_TAG));
+    let none = ["2026-02-29", "2100-02-29", "2026-04-31", "2026-08-32", "2026-13-01"].iter().map(|day| case(day, number::TODAY));
+    last.chain(leap).chain(none).collect()
 }
 
 /// The kinds that are measured. Those with a certificate have one table, and the first stands for them.
@@ -407,6 +435,7 @@ fn tables() -> Vec<(&'static str, Vec<Case>)> {
         ("Lengths in fewest bytes and in longer forms", forms),
         ("From 1 KiB to 32 KiB", growth),
         ("From 500 to 16,000 items of a certificate", items),
+        ("The date check, day by day", day_cases()),
     ]
 }
 

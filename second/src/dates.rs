@@ -1,7 +1,8 @@
-//! Printed dates for the generator: as they should be and damaged. The calls on those at an edge are made in every run.
+//! Printed dates for the generator: as they should be and damaged. The calls on those at an edge are made in every run, and those on
+//! days at an edge in the other forms of a date.
 
 use crate::batch::{Call, Record};
-use crate::generate::{damage_digits, date, eight, plain, Rng, YEARS};
+use crate::generate::{damage_digits, date, eight, plain, Card, Rng, EXAMPLE_DAY, EXAMPLE_FASCN, YEARS};
 use crate::samples;
 use crate::values::{days, MONTHS};
 
@@ -107,7 +108,11 @@ fn other_orders(text: &[u8]) -> [[&[u8]; 3]; 5] {
 // ---------------------------------------------------------------------------------------------
 // Edges
 
-/// A check and a write for each text at an edge.
+/// Years of which some are leap years, and one is none; and the days around the ends of a month.
+const EDGE_YEARS: [u64; 8] = [0, 1, 1900, 2000, 2028, 2030, 2100, 9999];
+const EDGE_DAYS: [u64; 7] = [0, 1, 28, 29, 30, 31, 32];
+
+/// A check and a write for each text at an edge, and checks of the days at an edge in the other forms.
 pub fn records() -> Vec<Record> {
     let mut out = Vec::new();
     for text in edges() {
@@ -117,7 +122,30 @@ pub fn records() -> Vec<Record> {
             out.push(Record { room, fill: 0xA5, ..plain(call, card.kind, bytes.clone()) });
         }
     }
+    out.extend(edges_in_numbers().into_iter().flat_map(in_numbers));
     out
+}
+
+/// Days at an edge, as year, month and day, of each month and of those that would come before the first and after the last.
+pub fn edges_in_numbers() -> Vec<(u64, u64, u64)> {
+    let months = |year| (0..=13).map(move |month| (year, month));
+    let days = |(year, month)| EDGE_DAYS.map(|day| (year, month, day));
+    EDGE_YEARS.into_iter().flat_map(months).flat_map(days).collect()
+}
+
+/// The check of a day in each form in which the month is a number: as today, as the expiry of a CHUID, on New Year's Day of that year,
+/// and as the creation of a biometric.
+pub fn in_numbers((year, month, day): (u64, u64, u64)) -> [Record; 3] {
+    let number = year * 10_000 + month * 100 + day;
+    let check = |today, card: Card| Record { today, ..plain(Call::Check, card.kind, card.container()) };
+    let mut biometric = samples::face(0xFE, 1, 1);
+    let value = biometric.rows[0].as_mut().expect("a biometric has a value");
+    value[12..16].copy_from_slice(&[year / 100, year % 100, month, day].map(|part| part as u8));
+    [
+        check(number, samples::discovery([0x40, 0])),
+        check(year.max(1) * 10_000 + 101, samples::chuid(&EXAMPLE_FASCN, &eight(number), &[0x30])),
+        check(EXAMPLE_DAY, biometric),
+    ]
 }
 
 /// Texts that are printed dates and others that are nearly so.
@@ -125,12 +153,12 @@ pub fn edges() -> Vec<Vec<u8>> {
     [edges_of_days(), edges_of_letters(), edges_of_digits(), edges_of_form()].concat()
 }
 
-/// The days around the ends of each month, in years of which some are leap years, and one is none.
+/// The days at an edge, of each month.
 fn edges_of_days() -> Vec<Vec<u8>> {
     let mut out = Vec::new();
-    for year in [0, 1, 1900, 2000, 2028, 2030, 2100, 9999] {
+    for year in EDGE_YEARS {
         for letters in &MONTHS {
-            out.extend([0, 1, 28, 29, 30, 31, 32].map(|day| text(year, letters, day)));
+            out.extend(EDGE_DAYS.map(|day| text(year, letters, day)));
         }
     }
     out

@@ -1,4 +1,4 @@
-//! The printed date of request 2026-03.
+//! The printed date of request 2026-03, and the days of the calendar in every form.
 
 use second::batch::Call;
 use second::card::{length_at, CONFORMS};
@@ -183,6 +183,17 @@ fn edges() {
         numbers.insert(number);
     }
     assert!(numbers.into_iter().eq([0, 16, 19]));
+}
+
+/// As today, as the expiry of a CHUID and as the creation of a biometric a day is refused exactly where the calendar has none.
+#[test]
+fn edges_in_numbers() {
+    for (year, month, day) in dates::edges_in_numbers() {
+        let days = month.checked_sub(1).and_then(|before| months_of(year).get(before as usize).map(|&(_, days)| days));
+        let there = days.map_or(false, |days| (1..=days).contains(&day));
+        let numbers = dates::in_numbers((year, month, day)).map(|record| record.answer().number);
+        assert_eq!(numbers, if there { [0, 0, 0] } else { [2, 19, 21] }, "{:?}", (year, month, day));
+    }
 }
 
 // ---------------------------------------------------------------------------------------------

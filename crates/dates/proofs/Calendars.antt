@@ -46,8 +46,7 @@ unfolding daysIn
 days-most y m = leb-true _ _ (each-getD (λ d. leb d 31) (monthLengths y) 0 m short refl)
   where
     short : each (λ d. leb d 31) (monthLengths y) ≡ true
-    short =
-        test (leap y) (λ b. (leb (cond b 29 28) 31 && true) ≡ true) (λ _. refl) (λ _. refl)
+    short = test (leap y) (λ b. (leb (cond b 29 28) 31 && true) ≡ true) (λ _. refl) (λ _. refl)
 
 -- ---- the calendar's rule, from which `days_in` works
 

@@ -41,15 +41,15 @@ fn is_leap(year: u64) -> bool
 fn days_in(year: u64, month: u64) -> u64
     ensures { λ r. ⌜ r ≡ daysIn year month ⌝ }
 {
-    if !((JANUARY <= month) & (month <= DECEMBER)) {
-        return 0;
-    }
     if month == FEBRUARY {
         return if is_leap(year) { 29 } else { 28 };
     }
-    // From January, and again from August, every second month has 31 days.
-    let first = if month < AUGUST { JANUARY } else { AUGUST };
-    if (month - first) % 2 == 0 { 31 } else { 30 }
+    if (JANUARY <= month) & (month <= DECEMBER) {
+        // From January, and again from August, every second month has 31 days.
+        let first = if month < AUGUST { JANUARY } else { AUGUST };
+        return if (month - first) % 2 == 0 { 31 } else { 30 };
+    }
+    0
 }
 
 // "year 0001 to 9999, Gregorian". A month that there is not has no days, so none of them exists.

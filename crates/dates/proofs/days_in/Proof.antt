@@ -4,7 +4,7 @@ use mathlib.Core.Path.{_≡_, sym, _∙_}
 use mathlib.Core.Logic.{inl, inr}
 use native.Mathlib.Omega.{arith}
 use borrow.Author.Needs.{needs}
-use borrow.Author.Tests.{leb-true, not-true, not-false}
+use borrow.Author.Tests.{leb-true}
 use Rattle.laws.proofs.Cases.{and-true}
 use Rattle.dates.specs.Calendar.{daysIn}
 use Rattle.dates.proofs.Calendars.{no-month, common-february, leap-february, alternating, has-31, has-30, from-january, from-august}
@@ -12,23 +12,19 @@ use Rattle.dates.proofs.days_in.Statement.{statement}
 use Rattle.dates.proofs.days_in.Tie as tie
 
 returns : tie.Need-returns
-returns c = no-month _ _ (not-true _ (c .if1 .taken))
+returns c = leap-february _ _ (c .before .before .if1 .taken) (sym (c .before .is-leap .ensures) ∙ c .if2 .taken)
 
 returns-2 : tie.Need-returns-2
-returns-2 c = leap-february _ _ (c .before .before .if2 .taken) (sym (c .before .is-leap .ensures) ∙ c .if3 .taken)
-
-returns-3 : tie.Need-returns-3
-returns-3 c = common-february _ _ (c .before .before .if2 .taken) (sym (c .before .is-leap .ensures) ∙ c .if3 .left)
+returns-2 c = common-february _ _ (c .before .before .if1 .taken) (sym (c .before .is-leap .ensures) ∙ c .if2 .left)
 
 -- the month is one of the twelve
-one-of-twelve : (c : tie.Else1) → (1 ≤ c .before .args .month) × (c .before .args .month ≤ 12)
-one-of-twelve c = let b = and-true _ _ (not-false _ (c .if1 .left)) in (leb-true _ _ (b .0), leb-true _ _ (b .1))
+one-of-twelve : (c : tie.Then3) → let m = c .before .before .args .month in (1 ≤ m) × (m ≤ 12)
+one-of-twelve c = let b = and-true _ _ (c .if3 .taken) in (leb-true _ _ (b .0), leb-true _ _ (b .1))
 
 sub-if5 : tie.Need-sub-if5
 sub-if5 c =
-    let j = c .before in
-    let b = one-of-twelve (j .before .before) in
-    elim (j .if4 .came) [
+    let b = one-of-twelve (c .before .before) in
+    elim (c .before .if4 .came) [
       | inl w ↦ let e = w .1 in omega arith
       | inr w ↦ let e = w .1 in let h = w .0 .left in omega arith
     ]
@@ -38,18 +34,21 @@ alternates : (c : tie.Joined4) →
     let a = c .before .before .before .args in
     alternating (a .month - c .if4 .first) ≡ daysIn (a .year) (a .month)
 alternates c =
-    let b = one-of-twelve (c .before .before) in
+    let b = one-of-twelve (c .before) in
     elim (c .if4 .came) [
-      | inl w ↦ let h = w .0 .taken in rw (w .1) (from-january _ _ (omega arith) (omega arith) (c .before .if2 .left))
+      | inl w ↦ let h = w .0 .taken in rw (w .1) (from-january _ _ (omega arith) (omega arith) (c .before .before .if1 .left))
       | inr w ↦ let h = w .0 .left in rw (w .1) (from-august _ _ (omega arith) (omega arith))
     ]
 
+returns-3 : tie.Need-returns-3
+returns-3 c = has-31 _ (c .if5 .taken) ∙ alternates (c .before .before)
+
 returns-4 : tie.Need-returns-4
-returns-4 c = has-31 _ (c .if5 .taken) ∙ alternates (c .before .before)
+returns-4 c = has-30 _ (c .if5 .left) ∙ alternates (c .before .before)
 
 returns-5 : tie.Need-returns-5
-returns-5 c = has-30 _ (c .if5 .left) ∙ alternates (c .before .before)
+returns-5 c = no-month _ _ (c .if3 .left)
 
 pub days-in-spec : {M : Type 1} → statement M
 days-in-spec =
-    tie.close (tie.spec returns (λ c κs. search needs) returns-2 returns-3 sub-if5 returns-4 returns-5)
+    tie.close (tie.spec (λ c κs. search needs) returns returns-2 sub-if5 returns-3 returns-4 returns-5)
