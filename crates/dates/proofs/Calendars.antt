@@ -1,7 +1,7 @@
 -- A day that exists: the test says exactly what the definition says. Assumes nothing.
 use Prim.Native.Nat.{ℕ, zero, suc, _+_, _-_, _%_, _≤_, _<_}
 use mathlib.Core.Path.{_≡_, refl, sym, ap, _∙_}
-use mathlib.Core.Bool.{true, false, cond, _&&_, _||_}
+use mathlib.Core.Bool.{Bool, true, false, cond, _&&_, _||_}
 use mathlib.Core.Logic.{_↔_, inl, inr}
 use mathlib.Core.List.{[], _∷_}
 use native.Mathlib.Omega.{arith}
@@ -104,11 +104,14 @@ has-days y m h =
       | inr f ↦ let z = no-month y m f in absurd (omega arith)
     ]
 
--- so the month needs no test of its own
-pub of-its-days : (y m d : ℕ) → (leb 1 y && leb y 9999 && leb 1 d && leb d (daysIn y m)) ≡ exists y m d
-of-its-days y m d = same-test _ _ (sound, complete) (exists-exact y m d)
+-- so the code asks for the day alone
+abbrev pub one-of-its-days : ℕ → ℕ → ℕ → Bool
+one-of-its-days y m d = leb 1 y && leb y 9999 && leb 1 d && leb d (daysIn y m)
+
+pub its-month-too : (y m d : ℕ) → one-of-its-days y m d ≡ exists y m d
+its-month-too y m d = same-test _ _ (sound, complete) (exists-exact y m d)
   where
-    sound : (leb 1 y && leb y 9999 && leb 1 d && leb d (daysIn y m)) ≡ true → Exists y m d
+    sound : one-of-its-days y m d ≡ true → Exists y m d
     sound e =
         let t = all-true (leb 1 y ∷ leb y 9999 ∷ leb 1 d ∷ leb d (daysIn y m) ∷ []) e in
         let first = leb-true 1 d (t 2) in
@@ -123,5 +126,5 @@ of-its-days y m d = same-test _ _ (sound, complete) (exists-exact y m d)
           last-day = last;
         }
 
-    complete : Exists y m d → (leb 1 y && leb y 9999 && leb 1 d && leb d (daysIn y m)) ≡ true
+    complete : Exists y m d → one-of-its-days y m d ≡ true
     complete x = rw (le-leb _ _ (x .first-year), le-leb _ _ (x .last-year), le-leb _ _ (x .first-day), le-leb _ _ (x .last-day))
