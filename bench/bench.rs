@@ -9,8 +9,8 @@
 
 use second::card::{all_kinds, kind_of, Rule, CONFORMS};
 use second::generate::{certificate_kinds, endless_row, Card, Form, Forms, LONGEST_FORM};
-use second::{number, tag_number};
 use second::trees::{certificate_of_pairs, Tree};
+use second::{number, tag_number};
 use std::arch::asm;
 use std::ops::{Deref, DerefMut};
 use std::time::Instant;

@@ -7,7 +7,7 @@ use mathlib.Core.List.{[], _∷_}
 use native.Mathlib.Omega.{arith}
 use lib.Dec.{leb, eqb}
 use lib.ListN.{List·getD-eq-default}
-use borrow.Author.Tests.{le-leb, leb-true, leb-false, eqb-true, ne-eqb}
+use borrow.Author.Tests.{le-leb, leb-true, leb-false, eqb-true}
 use Rattle.laws.specs.Tests.{allBelow, each}
 use Rattle.laws.proofs.Cases.{which, test, same-test, and-true, either, all-true, at-each, agree, each-getD}
 use Rattle.dates.specs.Calendar.{leap, monthLengths, daysIn, Exists, exists}
@@ -59,23 +59,13 @@ no-month y (suc m) h =
     sym (List·getD-eq-default (monthLengths y) 0 past)
 
 -- February has 28 days, in a leap year 29
-pub common-february : (y m : ℕ) → m ≡ 2 → leap y ≡ false → 28 ≡ daysIn y m
+pub february : (y m : ℕ) → (b : Bool) → m ≡ 2 → leap y ≡ b → cond b 29 28 ≡ daysIn y m
 unfolding daysIn
-common-february y m h e = rw (h, e)
-
-pub leap-february : (y m : ℕ) → m ≡ 2 → leap y ≡ true → 29 ≡ daysIn y m
-unfolding daysIn
-leap-february y m h e = rw (h, e)
+february y m b h e = rw (h, e)
 
 -- the months alternate between 31 days and 30: what the month has that comes so many after the first
 abbrev pub alternating : ℕ → ℕ
 alternating after = cond (eqb (after % 2) 0) 31 30
-
-pub has-31 : (n : ℕ) → n % 2 ≡ 0 → 31 ≡ alternating n
-has-31 n h = rw h
-
-pub has-30 : (n : ℕ) → (n % 2 ≡ 0 → ⊥) → 30 ≡ alternating n
-has-30 n h = rw (ne-eqb (n % 2) 0 h)
 
 -- the first is January; only February has its own number of days
 pub from-january : (y m : ℕ) → 1 ≤ m → m < 8 → (m ≡ 2 → ⊥) → alternating (m - 1) ≡ daysIn y m

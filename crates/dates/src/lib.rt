@@ -52,7 +52,7 @@ fn days_in(year: u64, month: u64) -> u64
     0
 }
 
-// "year 0001 to 9999, Gregorian". A month that there is not has no days, so none of them exists.
+// "year 0001 to 9999, Gregorian". A month that there is not has no days, so no day of it exists.
 fn exists(year: u64, month: u64, day: u64) -> bool
     ensures { λ r. ⌜ r ≡ exists year month day ⌝ }
 {

@@ -1,21 +1,22 @@
 -- `dates::days_in` meets its contract: each step is a sentence of the calendar's rule. Assumes nothing.
 use Prim.Native.Nat.{_≤_, _-_}
 use mathlib.Core.Path.{_≡_, sym, _∙_}
+use mathlib.Core.Bool.{true, false}
 use mathlib.Core.Logic.{inl, inr}
 use native.Mathlib.Omega.{arith}
 use borrow.Author.Needs.{needs}
-use borrow.Author.Tests.{leb-true}
+use borrow.Author.Tests.{leb-true, ne-eqb}
 use Rattle.laws.proofs.Cases.{and-true}
 use Rattle.dates.specs.Calendar.{daysIn}
-use Rattle.dates.proofs.Calendars.{no-month, common-february, leap-february, alternating, has-31, has-30, from-january, from-august}
+use Rattle.dates.proofs.Calendars.{no-month, february, alternating, from-january, from-august}
 use Rattle.dates.proofs.days_in.Statement.{statement}
 use Rattle.dates.proofs.days_in.Tie as tie
 
 returns : tie.Need-returns
-returns c = leap-february _ _ (c .before .before .if1 .taken) (sym (c .before .is-leap .ensures) ∙ c .if2 .taken)
+returns c = february _ _ true (c .before .before .if1 .taken) (sym (c .before .is-leap .ensures) ∙ c .if2 .taken)
 
 returns-2 : tie.Need-returns-2
-returns-2 c = common-february _ _ (c .before .before .if1 .taken) (sym (c .before .is-leap .ensures) ∙ c .if2 .left)
+returns-2 c = february _ _ false (c .before .before .if1 .taken) (sym (c .before .is-leap .ensures) ∙ c .if2 .left)
 
 -- the month is one of the twelve
 one-of-twelve : (c : tie.Then3) → let m = c .before .before .args .month in (1 ≤ m) × (m ≤ 12)
@@ -41,10 +42,10 @@ alternates c =
     ]
 
 returns-3 : tie.Need-returns-3
-returns-3 c = has-31 _ (c .if5 .taken) ∙ alternates (c .before .before)
+returns-3 c = simp (c .if5 .taken) at (alternates (c .before .before))
 
 returns-4 : tie.Need-returns-4
-returns-4 c = has-30 _ (c .if5 .left) ∙ alternates (c .before .before)
+returns-4 c = simp (ne-eqb _ _ (c .if5 .left)) at (alternates (c .before .before))
 
 returns-5 : tie.Need-returns-5
 returns-5 c = no-month _ _ (c .if3 .left)
