@@ -12,20 +12,18 @@ use Rattle.laws.specs.Bytes.{Bytes}
 use Rattle.laws.specs.Digits.{value}
 use Rattle.laws.specs.Format.{Agrees}
 use Rattle.laws.proofs.Cases.{and-true, and-is}
-use Rattle.laws.proofs.Formats.{is-agrees, anything-agrees, _next_}
+use Rattle.laws.proofs.Formats.{is-agrees, at-least-agrees, anything-agrees, _next_}
 use Rattle.fascn.proofs.Codec.{fascn-exact}
 use Rattle.dates.specs.Moment.{isMoment}
 use Rattle.dates.proofs.Moments.{moment-exact, order-exact}
 use Rattle.plain.proofs.Exact.{quality-exact}
 use Rattle.plain.proofs.Creators.{creator-exact}
 use Rattle.minutiae.proofs.Exact.{minutiae-exact}
-use Rattle.cbeff.specs.Header.{dataLength, signatureLength, moment, notBefore, topBits, quality, creator, fascn, data-part, header}
+use Rattle.facial.proofs.Exact.{facial-exact}
+use Rattle.cbeff.specs.Header.{signatureLength, moment, notBefore, topBits, quality, creator, fascn, data-part, header}
 use Rattle.cbeff.specs.declared.Biometric.{Biometric}
 use Rattle.cbeff.specs.declared.Body.{Body}
-use Rattle.cbeff.specs.declared.Body.the-variants.{Minutiae, Unexamined}
-
-data-length-agrees : (d : ℕ) → d < 256 ^ 4 → (dataLength .test d ≡ true) ↔ dataLength .says d
-data-length-agrees d h = (leb-true 1 d, le-leb 1 d)
+use Rattle.cbeff.specs.declared.Body.the-variants.{Minutiae, Facial}
 
 signature-length-agrees : (size d s : ℕ) → s < 256 ^ 2 → (signatureLength size d .test s ≡ true) ↔ signatureLength size d .says s
 signature-length-agrees size d s h = (
@@ -60,12 +58,12 @@ fascn-agrees v b l = fascn-exact v b
 
 data-agrees : (body : Body) (d : ℕ) (v : List ℕ) → Bytes v → length v ≡ d → (data-part body .test v ≡ true) ↔ data-part body .says v
 data-agrees Minutiae d v b l = minutiae-exact v b
-data-agrees Unexamined d v b l = anything-agrees d v b l
+data-agrees Facial d v b l = facial-exact v b
 
 pub header-agrees : (b : Biometric) (size : ℕ) → Agrees (header b size)
 header-agrees b size =
     is-agrees 1 0x03 next is-agrees 1 0x0D next (
-      data-length-agrees,
+      at-least-agrees 4 1,
       λ d _. (
         signature-length-agrees size d,
         λ s _.

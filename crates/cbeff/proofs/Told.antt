@@ -17,7 +17,7 @@ use Rattle.laws.proofs.Formats.{LongEnough, long-enough, cond-and, cond-same}
 use Rattle.verdicts.specs.Verdicts.{ruled}
 use Rattle.verdicts.specs.declared.Fault.{Fault}
 use Rattle.verdicts.specs.declared.Ruling.the-variants.{Kept, Breaks}
-use Rattle.verdicts.specs.declared.Fault.the-variants.{BadHeader, BadFascn, BadMinutiae}
+use Rattle.verdicts.specs.declared.Fault.the-variants.{BadHeader, BadFascn}
 use Rattle.fascn.specs.Reading.{isFascn}
 use Rattle.cbeff.specs.Header.{data-part, header}
 use Rattle.cbeff.specs.Judged.{sizeTests, sizesHold, datesHold, formHolds, opens, judged}
@@ -35,7 +35,7 @@ after b v =
     (cond (eqb (field v 84 4) 0)
     (cond (data-part (b .body) .test (part v 88 (field v 2 4)))
     (cond (eqb (88 + field v 2 4 + field v 6 2) (length v)) kept (breaks BadHeader))
-    (breaks BadMinutiae))
+    (breaks (b .broken)))
     (breaks BadHeader))
     (breaks BadFascn)
 
@@ -67,13 +67,13 @@ size-of b v o =
     sizes-told (b .format) d v s .2
 
 -- what follows them, in the code's answer
-ends : (f r d : Bool)
-    → cond f (cond r (cond d Kept (Breaks BadMinutiae)) (Breaks BadHeader)) (Breaks BadFascn)
-    ≡ ruled (cond f (cond r (cond d kept (breaks BadMinutiae)) (breaks BadHeader)) (breaks BadFascn))
-ends true true true = refl
-ends true true false = refl
-ends true false d = refl
-ends false r d = refl
+ends : (x : Fault) (f r d : Bool)
+    → cond f (cond r (cond d Kept (Breaks x)) (Breaks BadHeader)) (Breaks BadFascn)
+    ≡ ruled (cond f (cond r (cond d kept (breaks x)) (breaks BadHeader)) (breaks BadFascn))
+ends x true true true = refl
+ends x true true false = refl
+ends x true false d = refl
+ends x false r d = refl
 
 -- the two answer the same on every value
 pub judged-is : (b : Biometric) (v : List ℕ) → judged b v ≡ ruled (judge (header b (length v)) 0 v)
@@ -87,7 +87,7 @@ judged-is b v =
             | inl o ↦
                 let e = size-of b v o in
                 rw (header-told b v h, le-leb 88 (length v) h, o, eq-eqb _ _ e)
-                (ends (isFascn (part v 59 25)) (eqb (field v 84 4) 0) (data-part (b .body) .test (part v 88 (field v 2 4))))
+                (ends (b .broken) (isFascn (part v 59 25)) (eqb (field v 84 4) 0) (data-part (b .body) .test (part v 88 (field v 2 4))))
             | inr o ↦ rw (header-told b v h, le-leb 88 (length v) h, o)
           ]
     ]

@@ -10,7 +10,7 @@ use Rattle.laws.specs.Digits.{value}
 use Rattle.laws.specs.Layout.{field, part}
 use Rattle.laws.proofs.Cases.{not-so}
 use Rattle.verdicts.specs.declared.Ruling.the-variants.{Kept, Breaks}
-use Rattle.verdicts.specs.declared.Fault.the-variants.{BadHeader, BadFascn, BadMinutiae}
+use Rattle.verdicts.specs.declared.Fault.the-variants.{BadHeader, BadFascn}
 use Rattle.fascn.specs.Reading.{isFascn}
 use Rattle.dates.specs.Moment.{isMoment, momentOf}
 use Rattle.dates.specs.declared.Moment.the-variants.{At, Never}
@@ -82,7 +82,7 @@ module _ (b : Biometric) (v : List ℕ) where
             bad-reserved z = rw (le-leb 88 (length v) l, ← e, ← s, ← t, ← f, ← n, ne-eqb _ _ z)
 
             module _ (z : field v 84 4 ≡ 0) where
-              pub bad-data : false ≡ data-part (b .body) .test (part v 88 d) → Breaks BadMinutiae ≡ judged b v
+              pub bad-data : false ≡ data-part (b .body) .test (part v 88 d) → Breaks (b .broken) ≡ judged b v
               unfolding judged
               bad-data h = rw (le-leb 88 (length v) l, ← e, ← s, ← t, ← f, ← n, eq-eqb _ _ z, ← h)
 

@@ -6,9 +6,9 @@ use mathlib.Core.List.{List}
 use lib.Dec.{leb, eqb}
 use lib.ListN.{length}
 use Rattle.laws.specs.Digits.{value}
-use Rattle.laws.specs.Format.{Rule, Format, end, num, raw, Laid, is, anything}
+use Rattle.laws.specs.Format.{Rule, Format, end, num, raw, Laid, is, atLeast, anything}
 use Rattle.verdicts.specs.declared.Fault.{Fault}
-use Rattle.verdicts.specs.declared.Fault.the-variants.{BadHeader, BadFascn, BadMinutiae}
+use Rattle.verdicts.specs.declared.Fault.the-variants.{BadHeader, BadFascn, BadMinutiae, BadFace}
 use Rattle.fascn.specs.Fascn.{IsFascn}
 use Rattle.fascn.specs.Reading.{isFascn}
 use Rattle.dates.specs.Moment.{IsMoment, isMoment, NotAfter}
@@ -16,24 +16,22 @@ use Rattle.plain.specs.Plain.{IsCreator, isCreator}
 use Rattle.plain.specs.Quality.{IsQuality, isQuality}
 use Rattle.minutiae.specs.Minutiae.{IsMinutiae}
 use Rattle.minutiae.specs.Judged.{isMinutiae}
+use Rattle.facial.specs.Facial.{IsFacial}
+use Rattle.facial.specs.Judged.{isFacial}
 use Rattle.cbeff.specs.declared.Biometric.{Biometric}
 use Rattle.cbeff.specs.declared.Body.{Body}
-use Rattle.cbeff.specs.declared.Body.the-variants.{Minutiae, Unexamined}
+use Rattle.cbeff.specs.declared.Body.the-variants.{Minutiae, Facial}
 
 -- ---- what differs: "format 0201 fingers or 0501 face", "type 000008 fingers or 000002 face", "data type, top three bits 100 fingers or 001 face",
--- whether a quality of -1 is known (document 004: in fingers, not in face), and what the data are
+-- whether a quality of -1 is known (document 004: in fingers, not in face), what the data are, and the fault of data that are no such record
 
 abbrev pub fingers : Biometric
-fingers = record { format = 0x0201; sort = 0x000008; top = 4; missing = true; body = Minutiae }
+fingers = record { format = 0x0201; sort = 0x000008; top = 4; missing = true; body = Minutiae; broken = BadMinutiae }
 
 abbrev pub face : Biometric
-face = record { format = 0x0501; sort = 0x000002; top = 1; missing = false; body = Unexamined }
+face = record { format = 0x0501; sort = 0x000002; top = 1; missing = false; body = Facial; broken = BadFace }
 
 -- ---- the rules of the fields
-
--- d: document 004, 9.1.1 and 9.2.1: not zero
-abbrev pub dataLength : Rule ℕ
-dataLength = record { says = λ d. 1 ≤ d; test = λ d. leb 1 d }
 
 -- s: not zero, and "The whole value of BC has 88 + d + s bytes. The length rule is judged with s"
 abbrev pub signatureLength : ℕ → ℕ → Rule ℕ
@@ -59,12 +57,12 @@ creator = record { says = IsCreator; test = isCreator }
 abbrev pub fascn : Rule (List ℕ)
 fascn = record { says = IsFascn; test = isFascn }
 
--- "Minutiae (the d bytes, kind 6)"; "In kind 7 the d bytes are not examined."
+-- "Minutiae (the d bytes, kind 6)"; 2026-05: "Check the face record's header and its image information"
 abbrev pub data-part : Body → Rule (List ℕ)
 data-part Minutiae = record { says = IsMinutiae; test = isMinutiae }
-data-part Unexamined = anything
+data-part Facial = record { says = IsFacial; test = isFacial }
 
--- ---- the table of a value of so many bytes: 21 at every field but the FASC-N, 17 there, and 22 for the minutiae, which come after the whole header
+-- ---- the table of a value of so many bytes: 21 at every field but the FASC-N, 17 there, and 22 or 26 for the data, "after 21 and 17 of the same element"
 
 abbrev pub one : ℕ → Rule ℕ → Format Fault → Format Fault
 one w p k = num w p BadHeader (λ n. k)
@@ -76,7 +74,7 @@ abbrev pub header : Biometric → ℕ → Format Fault
 header b size =
     one 1 (is 0x03)  -- version
     (one 1 (is 0x0D)  -- security
-    (num 4 dataLength BadHeader (λ d.  -- data length d
+    (num 4 (atLeast 1) BadHeader (λ d.  -- data length d: document 004, 9.1.1 and 9.2.1: not zero
     (num 2 (signatureLength size d) BadHeader (λ s.  -- signature length s
     (one 2 (is 0x001B)  -- owner
     (one 2 (is (b .format))  -- format
@@ -89,7 +87,7 @@ header b size =
     (part 18 creator  -- creator
     (raw 25 fascn BadFascn (λ f.  -- FASC-N
     (one 4 (is 0)  -- reserved
-    (raw d (data-part (b .body)) BadMinutiae (λ v.  -- the data
+    (raw d (data-part (b .body)) (b .broken) (λ v.  -- the data
     (part s anything  -- the signature
     (end BadHeader))))))))))))))))))))))
 

@@ -8,7 +8,7 @@ use Rattle.laws.specs.Layout.{field, part}
 use Rattle.laws.specs.Tests.{all}
 use Rattle.verdicts.specs.declared.Ruling.{Ruling}
 use Rattle.verdicts.specs.declared.Ruling.the-variants.{Kept, Breaks}
-use Rattle.verdicts.specs.declared.Fault.the-variants.{BadHeader, BadFascn, BadMinutiae}
+use Rattle.verdicts.specs.declared.Fault.the-variants.{BadHeader, BadFascn}
 use Rattle.fascn.specs.Reading.{isFascn}
 use Rattle.dates.specs.Moment.{isMoment}
 use Rattle.plain.specs.Plain.{isCreator}
@@ -50,7 +50,7 @@ judged b v =
     cond (leb 88 (length v) && opens b v)
     (cond (isFascn (part v 59 25))
     (cond (eqb (field v 84 4) 0)
-    (cond (data-part (b .body) .test (part v 88 (field v 2 4))) Kept (Breaks BadMinutiae))
+    (cond (data-part (b .body) .test (part v 88 (field v 2 4))) Kept (Breaks (b .broken)))
     (Breaks BadHeader))
     (Breaks BadFascn))
     (Breaks BadHeader)

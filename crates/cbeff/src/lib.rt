@@ -8,6 +8,7 @@ ghost use Rattle.cbeff.specs.Header.{fingers, face, header, data-part};
 ghost use Rattle.cbeff.specs.Judged.{sizesHold, datesHold, formHolds};
 use dates::Moment;
 use dates::moment_of;
+use facial::is_facial;
 use fascn::is_fascn;
 use minutiae::is_minutiae;
 use numbers::number;
@@ -19,17 +20,18 @@ use verdicts::Ruling;
 // What the data part of a format is.
 pub enum Body {
     Minutiae,
-    Unexamined,
+    Facial,
 }
 
-// What differs by format: its number, the type, the top three bits of the data type, whether a quality of -1 is known, and
-// what the data part is.
+// What differs by format: its number, the type, the top three bits of the data type, whether a quality of -1 is known, what
+// the data part is, and the fault of one that is no such record.
 pub struct Biometric {
     pub format: u64,
     pub sort: u64,
     pub top: u64,
     pub missing: bool,
     pub body: Body,
+    pub broken: Fault,
 }
 
 // "format 0201 fingers", "type 000008 fingers", "data type, top three bits 100 fingers"; its data are minutiae.
@@ -42,10 +44,11 @@ pub fn fingers() -> Biometric
         top: 4,
         missing: true,
         body: Body::Minutiae,
+        broken: Fault::BadMinutiae,
     }
 }
 
-// "0501 face", "000002 face", "001 face"; "In kind 7 the d bytes are not examined."
+// "0501 face", "000002 face", "001 face"; its data are a facial record.
 pub fn face() -> Biometric
     ensures { λ r. ⌜ r ≡ face ⌝ }
 {
@@ -54,7 +57,8 @@ pub fn face() -> Biometric
         sort: 0x000002,
         top: 1,
         missing: false,
-        body: Body::Unexamined,
+        body: Body::Facial,
+        broken: Fault::BadFace,
     }
 }
 
@@ -101,13 +105,13 @@ fn form_holds(b: Biometric, v: &[u8]) -> bool
         & is_creator(&v[41..59])
 }
 
-// "Minutiae (the d bytes, kind 6)"; "In kind 7 the d bytes are not examined."
+// "Minutiae (the d bytes, kind 6)", and in kind 7 a facial record.
 fn data_holds(body: Body, bytes: &[u8]) -> bool
     ensures { λ r. ⌜ r ≡ data-part body .test (now (bytes .entry)) ⌝ }
 {
     match body {
         Body::Minutiae => is_minutiae(bytes),
-        Body::Unexamined => true,
+        Body::Facial => is_facial(bytes),
     }
 }
 
@@ -136,9 +140,10 @@ pub fn judge(b: Biometric, v: &[u8]) -> Ruling
         return Ruling::Breaks(Fault::BadHeader);
     }
     let body = b.body;
+    let broken = b.broken;
     let end = 88 + d as usize;
     if !data_holds(body, &v[88..end]) {
-        return Ruling::Breaks(Fault::BadMinutiae);
+        return Ruling::Breaks(broken);
     }
     Ruling::Kept
 }

@@ -1,8 +1,8 @@
 -- The judge keeps bytes exactly where they are laid out as the table says, and else names the first rule that they break: once, for every table.
 -- Assumes nothing.
-use Prim.Native.Nat.{ℕ, _+_, _-_, _^_, _<_, _≤_}
+use Prim.Native.Nat.{ℕ, zero, suc, _+_, _-_, _^_, _<_, _≤_}
 use mathlib.Core.Path.{_≡_, refl, sym, ap, _∙_}
-use mathlib.Core.Logic.{_↔_, _⊎_, inl, inr}
+use mathlib.Core.Logic.{_↔_, _⊎_, inl, inr, ⊎-elim}
 use mathlib.Core.Bool.{Bool, true, false, cond, _&&_, true≢false}
 use mathlib.Core.List.{List, _++_}
 use native.Mathlib.Omega.{arith}
@@ -12,8 +12,8 @@ use lib.Seq.{drop-drop, take-at, drop-at}
 use borrow.Author.Tests.{eqb-true, eqb-false, eq-eqb, ne-eqb, leb-true, le-leb}
 use Rattle.laws.specs.Bytes.{Bytes}
 use Rattle.laws.specs.Layout.{number, field, part}
-use Rattle.laws.specs.Format.{Rule, Format, end, num, raw, IsNumber, IsPart, Laid, FirstBroken, Agrees, Judged, kept, breaks, judge, is, between, anything}
-use Rattle.laws.proofs.Cases.{which, and-true, and-is}
+use Rattle.laws.specs.Format.{Rule, Format, end, num, raw, IsNumber, IsPart, Laid, FirstBroken, Agrees, Judged, kept, breaks, judge, is, _or_, atLeast, between, anything, times}
+use Rattle.laws.proofs.Cases.{which, and-true, and-is, either, or-left, or-right}
 use Rattle.laws.proofs.Bases.{below-take, below-drop, length-digits}
 use Rattle.laws.proofs.Layouts.{read, written, part-long, field-small}
 
@@ -21,6 +21,15 @@ use Rattle.laws.proofs.Layouts.{read, written, part-long, field-small}
 
 pub is-agrees : (w n m : ℕ) → m < 256 ^ w → (is n .test m ≡ true) ↔ is n .says m
 is-agrees w n m h = (eqb-true m n, eq-eqb m n)
+
+pub or-agrees : (w a b m : ℕ) → m < 256 ^ w → ((a or b) .test m ≡ true) ↔ (a or b) .says m
+or-agrees w a b m h = (
+  either (eqb m a) (eqb m b) (λ e. inl (eqb-true m a e)) (λ e. inr (eqb-true m b e)),
+  ⊎-elim (λ e. or-left (eqb m a) (eqb m b) (eq-eqb m a e)) (λ e. or-right (eqb m a) (eqb m b) (eq-eqb m b e)),
+)
+
+pub at-least-agrees : (w low m : ℕ) → m < 256 ^ w → (atLeast low .test m ≡ true) ↔ atLeast low .says m
+at-least-agrees w low m h = (leb-true low m, le-leb low m)
 
 pub between-agrees : (w low high m : ℕ) → m < 256 ^ w → (between low high .test m ≡ true) ↔ between low high .says m
 between-agrees w low high m h = (
@@ -31,10 +40,17 @@ between-agrees w low high m h = (
 pub anything-agrees : (w : ℕ) (v : List ℕ) → Bytes v → length v ≡ w → (anything .test v ≡ true) ↔ anything .says v
 anything-agrees w v b h = (λ e. tt, λ u. refl)
 
+pub any-number-agrees : (w m : ℕ) → m < 256 ^ w → (anything .test m ≡ true) ↔ anything .says m
+any-number-agrees w m h = (λ e. tt, λ u. refl)
+
 -- for `Agrees`: a field's rule agrees with its test, and so does what follows, whatever was read
 infixr 5 _next_
 pub _next_ : {X A B : Type 0} {P : X → Type 0} → A → B → A × ((x : X) → P x → B)
 a next b = (a, λ x h. b)
+
+pub times-agree : {X : Type 0} (f : Format X → Format X) → ((k : Format X) → Agrees k → Agrees (f k)) → (m : ℕ) (k : Format X) → Agrees k → Agrees (times m f k)
+times-agree f g zero k a = a
+times-agree f g (suc m) k a = g (times m f k) (times-agree f g m k a)
 
 -- ---- a field that keeps its rule is what is read where it is due
 

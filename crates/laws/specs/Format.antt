@@ -1,9 +1,9 @@
 -- A binary record as a table: fields in a document's order, each with its width, its rule, the fault that breaking it is, and what follows,
 -- which may hang on what was read.
-use Prim.Native.Nat.{ℕ, _+_, _^_, _<_, _≤_}
+use Prim.Native.Nat.{ℕ, zero, suc, _+_, _^_, _<_, _≤_}
 use mathlib.Core.Path.{_≡_}
 use mathlib.Core.Logic.{_↔_, _⊎_}
-use mathlib.Core.Bool.{Bool, true, cond, _&&_}
+use mathlib.Core.Bool.{Bool, true, cond, _&&_, _||_}
 use mathlib.Core.List.{List, [], _++_}
 use lib.ListN.{length}
 use lib.Dec.{leb, eqb}
@@ -66,10 +66,33 @@ judge (raw w p x k) at s = cond (leb (at + w) (length s) && p .test (part s at w
 abbrev pub is : ℕ → Rule ℕ
 is n = record { says = λ m. m ≡ n; test = λ m. eqb m n }
 
+-- this number or that
+infix 5 _or_
+abbrev pub _or_ : ℕ → ℕ → Rule ℕ
+a or b = record { says = λ m. (m ≡ a) ⊎ (m ≡ b); test = λ m. eqb m a || eqb m b }
+
+-- this number or more
+abbrev pub atLeast : ℕ → Rule ℕ
+atLeast low = record { says = λ m. low ≤ m; test = λ m. leb low m }
+
 -- from this number to that
 abbrev pub between : ℕ → ℕ → Rule ℕ
 between low high = record { says = λ m. (low ≤ m) × (m ≤ high); test = λ m. leb low m && leb m high }
 
--- anything: bytes that are not examined
-abbrev pub anything : Rule (List ℕ)
+-- anything: what is not examined
+abbrev pub anything : {A : Type 0} → Rule A
 anything = record { says = λ v. Unit {0}; test = λ v. true }
+
+-- ---- fields of a record all of whose faults are the same
+
+-- a field of w bytes with a rule, and one that is not examined
+abbrev pub one : ℕ → Rule ℕ → Format (Unit {0}) → Format (Unit {0})
+one w p k = num w p tt (λ n. k)
+
+abbrev pub free : ℕ → Format (Unit {0}) → Format (Unit {0})
+free w k = raw w anything tt (λ v. k)
+
+-- the same fields so many times, one after the other
+abbrev pub times : {X : Type 0} → ℕ → (Format X → Format X) → Format X → Format X
+times zero f k = k
+times (suc m) f k = f (times m f k)

@@ -12,18 +12,20 @@ use lib.Dec.{leb, eqb, leb·zero}
 use borrow.Author.Tests.{le-leb, leb-true, eq-eqb, eqb-true}
 use Rattle.laws.specs.Bytes.{Bytes}
 use Rattle.laws.specs.Layout.{field}
-use Rattle.laws.specs.Format.{Format, end, kept, breaks}
+use Rattle.laws.specs.Format.{Format, end, kept, breaks, times}
 use Rattle.laws.proofs.Cases.{and-true}
 use Rattle.laws.proofs.Formats.{inside, format-exact, skim, skim-keeps, cond-and, kept-if}
-use Rattle.minutiae.specs.Minutiae.{points, view, minutiae, IsMinutiae}
+use Rattle.minutiae.specs.Minutiae.{point, view, minutiae, IsMinutiae}
 use Rattle.minutiae.specs.Judged.{pointHolds, pointsHold, viewHead, extent, recordHead, isMinutiae}
-use Rattle.minutiae.specs.declared.Extent.the-variants.{Takes}
-use Rattle.minutiae.proofs.Ways.{takes, whole}
-use Rattle.minutiae.proofs.Tested.{view-told, record-told}
+use Rattle.records.specs.Fills.{fills}
+use Rattle.records.specs.declared.Extent.the-variants.{Takes}
+use Rattle.records.proofs.Exact.{Extends, fills-exact}
+use Rattle.minutiae.proofs.Ways.{takes}
+use Rattle.minutiae.proofs.Tested.{view-told}
 use Rattle.minutiae.proofs.Agreed.{minutiae-agrees}
 
 points-judged : (m : ℕ) (k : Format (Unit {0})) (at : ℕ) (d : List ℕ)
-    → skim (points m k) at d ≡ cond (pointsHold m (drop at d)) (skim k (at + 6 * m) d) (breaks tt)
+    → skim (times m point k) at d ≡ cond (pointsHold m (drop at d)) (skim k (at + 6 * m) d) (breaks tt)
 unfolding pointsHold pointHolds
 points-judged zero k at d = let z : at + 6 * 0 ≡ at = omega arith in rw z
 points-judged (suc m) k at d =
@@ -49,7 +51,7 @@ view-judged k at d =
     let c : at + 3 + 1 ≡ at + 4 = omega arith in
     simp (a, b, c, points-judged, drop-drop, add-zero, leb·zero, cond-and)
 
-record-judged : (d : List ℕ) → skim (minutiae (length d)) 0 d ≡ cond (recordHead d) (skim (view (view (end tt))) 26 d) (breaks tt)
+record-judged : (d : List ℕ) → skim (minutiae (length d)) 0 d ≡ cond (recordHead d) (skim (times 2 view (end tt)) 26 d) (breaks tt)
 unfolding recordHead
 record-judged d = simp cond-and
 
@@ -66,12 +68,6 @@ taken k at d n e r =
     let zeros : field d (at + 4 + 6 * m) 2 ≡ 0 = rw g (simp drop-drop at z) in
     let w : at + 4 + 6 * m + 2 ≡ at + n = omega (arith, rw c at (t .size)) in
     rw (view-judged k at d, t .head, le-leb m 128 few, points, eq-eqb _ _ zeros, w, r)
-
-true-kept : (d : List ℕ) → isMinutiae d ≡ true → skim (minutiae (length d)) 0 d ≡ kept
-true-kept d e =
-    let t = record-told d e in
-    let ends : skim {X = Unit {0}} (end tt) (26 + t .n + t .m) d ≡ kept = rw (eq-eqb _ _ (t .whole)) in
-    rw (record-judged, t .head, taken (view (end tt)) 26 d (t .n) (t .first) (taken (end tt) (26 + t .n) d (t .m) (t .second) ends))
 
 -- and back
 given : (k : Format (Unit {0})) (at : ℕ) (d : List ℕ) → skim (view k) at d ≡ kept
@@ -93,13 +89,22 @@ given k at d e =
     let points : true ≡ pointsHold m (drop 4 (drop at d)) = rw drop-drop (sym (p .0)) in
     (6 + 6 * m, sym (takes (drop at d) (omega arith) (sym (a .0)) m c few l points zeros), rw w at (j .1))
 
+views : Extends view extent
+views = record { taken = taken; given = given }
+
+true-kept : (d : List ℕ) → isMinutiae d ≡ true → skim (minutiae (length d)) 0 d ≡ kept
+unfolding isMinutiae
+true-kept d e =
+    let a = and-true (leb 26 (length d) && recordHead d) (fills extent 2 26 d) e in
+    let h = and-true (leb 26 (length d)) (recordHead d) (a .0) in
+    rw (record-judged d, h .1) (fills-exact view extent views 2 26 d .0 (a .1))
+
 kept-true : (d : List ℕ) → skim (minutiae (length d)) 0 d ≡ kept → isMinutiae d ≡ true
+unfolding isMinutiae
 kept-true d e =
-    let a = kept-if (recordHead d) (skim (view (view (end tt))) 26 d) tt (sym (record-judged d) ∙ e) in
-    let v = given (view (end tt)) 26 d (a .1) in
-    let u = given (end tt) (26 + v .0) d (v .2) in
-    let l = eqb-true (26 + v .0 + u .0) (length d) (kept-if (eqb (26 + v .0 + u .0) (length d)) kept tt (u .2) .0) in
-    sym (whole d (omega arith) (sym (a .0)) (v .0) (sym (v .1)) (u .0) (sym (u .1)) l)
+    let f = times 2 view (end tt) in
+    let a = kept-if (recordHead d) (skim f 26 d) tt (sym (record-judged d) ∙ e) in
+    rw (le-leb _ _ (inside f 26 d (a .1)), a .0) (fills-exact view extent views 2 26 d .1 (a .1))
 
 -- the test says that these bytes are a minutiae record exactly when they are one
 pub minutiae-exact : (d : List ℕ) → Bytes d → (isMinutiae d ≡ true) ↔ IsMinutiae d

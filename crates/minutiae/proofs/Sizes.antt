@@ -8,15 +8,15 @@ use lib.Seq.{drop-drop}
 use borrow.Author.Tests.{eqb-true}
 use Rattle.laws.specs.Bytes.{Bytes}
 use Rattle.laws.specs.Layout.{field}
-use Rattle.laws.specs.Format.{Format, end}
-use Rattle.minutiae.specs.Minutiae.{points, view, minutiae, IsMinutiae}
+use Rattle.laws.specs.Format.{Format, end, times}
+use Rattle.minutiae.specs.Minutiae.{point, view, minutiae, IsMinutiae}
 use Rattle.laws.proofs.Cases.{all-true}
 use Rattle.minutiae.specs.Judged.{recordTests, recordHead}
 use Rattle.minutiae.proofs.Tested.{view-told, record-told}
 use Rattle.minutiae.proofs.Exact.{minutiae-exact}
 use Rattle.laws.proofs.Formats.{Long, laid-long}
 
-points-long : (m : ℕ) (k : Format (Unit {0})) (n : ℕ) → Long (points m k) n → (r : ℕ) × (n ≡ 6 * m + r) × Long k r
+points-long : (m : ℕ) (k : Format (Unit {0})) (n : ℕ) → Long (times m point k) n → (r : ℕ) × (n ≡ 6 * m + r) × Long k r
 points-long zero k n l = (n, omega arith, l)
 points-long (suc m) k n l = let p = points-long m k (l .4 .4 .4 .1) (l .4 .4 .4 .4) in (p .0, omega arith, p .2)
 

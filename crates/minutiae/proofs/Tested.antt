@@ -1,22 +1,18 @@
 -- The tested form taken back: what each answer says of the bytes. Assumes nothing.
 use Prim.Native.Nat.{ℕ, _+_, _-_, _*_, _≤_}
-use mathlib.Core.Path.{_≡_, refl, sym}
-use mathlib.Core.Bool.{Bool, true, false, cond, _&&_, false≢true}
+use mathlib.Core.Path.{_≡_, sym}
+use mathlib.Core.Bool.{true, _&&_}
 use mathlib.Core.List.{List}
-use native.Mathlib.Omega.{arith}
 use lib.ListN.{length, drop, length-drop}
 use lib.Dec.{leb}
 use borrow.Author.Tests.{leb-true, eqb-true}
 use Rattle.laws.specs.Layout.{field}
 use Rattle.laws.specs.Tests.{all}
 use Rattle.laws.proofs.Cases.{and-true, all-true}
-use Rattle.minutiae.specs.Judged.{pointsHold, viewHead, sizeTests, sized, extent, recordHead, second, ended, isMinutiae}
-use Rattle.minutiae.specs.declared.Extent.{Extent}
-use Rattle.minutiae.specs.declared.Extent.the-variants.{Takes, None}
-
-takes-of : (b : Bool) (x : Extent) {n : ℕ} → cond b x None ≡ Takes n → (b ≡ true) × (x ≡ Takes n)
-takes-of true x e = (refl, e)
-takes-of false x e = let z : _≡_ {A = ℕ} 0 1 = cc in absurd (omega arith)
+use Rattle.minutiae.specs.Judged.{pointsHold, viewHead, sizeTests, sized, extent, recordHead, isMinutiae}
+use Rattle.records.specs.Fills.{fills}
+use Rattle.records.proofs.Ways.{takes-of, fills-told, fills-whole}
+use Rattle.records.specs.declared.Extent.the-variants.{Takes}
 
 pub record View (s : List ℕ) (n : ℕ) : Type 0 where
   pub head : viewHead s ≡ true
@@ -48,14 +44,6 @@ view-told s {n} e =
 pub view-inside : (at : ℕ) (d : List ℕ) {n : ℕ} → Takes n ≡ extent (drop at d) → n ≤ length d - at
 view-inside at d e = rw length-drop at (view-told (drop at d) (sym e) .inside)
 
-second-told : (d : List ℕ) (x : Extent) → second d x ≡ true → (n : ℕ) × (x ≡ Takes n) × (ended d (26 + n) (extent (drop (26 + n) d)) ≡ true)
-second-told d (Takes n) e = (n, refl, e)
-second-told d None e = absurd (false≢true e)
-
-ended-told : (d : List ℕ) (at : ℕ) (x : Extent) → ended d at x ≡ true → (m : ℕ) × (x ≡ Takes m) × (at + m ≡ length d)
-ended-told d at (Takes m) e = (m, refl, eqb-true _ _ e)
-ended-told d at None e = absurd (false≢true e)
-
 pub record Whole (d : List ℕ) : Type 0 where
   pub n : ℕ
   pub m : ℕ
@@ -68,8 +56,8 @@ pub record Whole (d : List ℕ) : Type 0 where
 pub record-told : (d : List ℕ) → isMinutiae d ≡ true → Whole d
 unfolding isMinutiae
 record-told d e =
-    let a = and-true (leb 26 (length d) && recordHead d) (second d (extent (drop 26 d))) e in
+    let a = and-true (leb 26 (length d) && recordHead d) (fills extent 2 26 d) e in
     let h = and-true (leb 26 (length d)) (recordHead d) (a .0) in
-    let s = second-told d (extent (drop 26 d)) (a .1) in
-    let t = ended-told d (26 + s .0) (extent (drop (26 + s .0) d)) (s .2) in
-    record { n = s .0; m = t .0; long = leb-true _ _ (h .0); head = h .1; first = s .1; second = t .1; whole = t .2 }
+    let s = fills-told extent 1 26 d (a .1) in
+    let t = fills-told extent 0 (26 + s .0) d (s .2) in
+    record { n = s .0; m = t .0; long = leb-true _ _ (h .0); head = h .1; first = s .1; second = t .1; whole = fills-whole extent (26 + s .0 + t .0) d (t .2) }

@@ -1,7 +1,7 @@
 -- What the tested form answers on each way out of the code. Assumes nothing.
 use Prim.Native.Nat.{ℕ, zero, suc, _+_, _-_, _*_, _<_, _≤_}
 use mathlib.Core.Path.{_≡_, refl}
-use mathlib.Core.Bool.{true, false}
+use mathlib.Core.Bool.{Bool, true, false}
 use mathlib.Core.List.{List}
 use native.Mathlib.Omega.{arith}
 use native.Mathlib.Nat.{not-suc-le-zero}
@@ -10,7 +10,8 @@ use lib.Seq.{drop-drop}
 use borrow.Author.Tests.{le-leb, lt-leb, eq-eqb, ne-eqb}
 use Rattle.laws.specs.Layout.{field}
 use Rattle.minutiae.specs.Judged.{pointHolds, pointsHold, viewHead, extent, recordHead, isMinutiae}
-use Rattle.minutiae.specs.declared.Extent.the-variants.{Takes, None}
+use Rattle.records.specs.Fills.{fills}
+use Rattle.records.specs.declared.Extent.the-variants.{Takes, None}
 
 -- ---- the points
 pub points-next : (m at : ℕ) (s : List ℕ) → 0 < m → true ≡ pointHolds (drop at s) → pointsHold (m - 1) (drop (at + 6) s) ≡ pointsHold m (drop at s)
@@ -74,21 +75,6 @@ module _ (d : List ℕ) where
     unfolding isMinutiae
     bad-record h = rw (le-leb 26 (length d) l, ← h)
 
-    module _ (h : true ≡ recordHead d) where
-      pub no-first : None ≡ extent (drop 26 d) → false ≡ isMinutiae d
-      unfolding isMinutiae
-      no-first e = rw (le-leb 26 (length d) l, ← h, ← e)
-
-      module _ (n : ℕ) (e : Takes n ≡ extent (drop 26 d)) where
-        pub no-second : None ≡ extent (drop (26 + n) d) → false ≡ isMinutiae d
-        unfolding isMinutiae
-        no-second f = rw (le-leb 26 (length d) l, ← h, ← e, ← f)
-
-        module _ (m : ℕ) (f : Takes m ≡ extent (drop (26 + n) d)) where
-          pub left-over : (26 + n + m ≡ length d → ⊥) → false ≡ isMinutiae d
-          unfolding isMinutiae
-          left-over z = rw (le-leb 26 (length d) l, ← h, ← e, ← f, ne-eqb _ _ z)
-
-          pub whole : 26 + n + m ≡ length d → true ≡ isMinutiae d
-          unfolding isMinutiae
-          whole z = rw (le-leb 26 (length d) l, ← h, ← e, ← f, eq-eqb _ _ z)
+    pub by-views : true ≡ recordHead d → (b : Bool) → b ≡ fills extent 2 26 d → b ≡ isMinutiae d
+    unfolding isMinutiae
+    by-views h b f = rw (le-leb 26 (length d) l, ← h, f)

@@ -1,14 +1,16 @@
 -- The record as the code tests it, field by field; proofs/Exact.antt ties it to the table.
 use Prim.Native.Nat.{ℕ, zero, suc, _+_, _*_}
-use mathlib.Core.Bool.{Bool, true, false, cond, _&&_}
+use mathlib.Core.Bool.{Bool, true, cond, _&&_}
 use mathlib.Core.List.{List, [], _∷_}
 use lib.ListN.{length, drop}
 use lib.Dec.{leb, eqb}
 use Rattle.laws.specs.Layout.{field}
 use Rattle.laws.specs.Tests.{all}
-use Rattle.minutiae.specs.Minutiae.{version, typed, impression, quality}
-use Rattle.minutiae.specs.declared.Extent.{Extent}
-use Rattle.minutiae.specs.declared.Extent.the-variants.{Takes, None}
+use Rattle.laws.specs.Format.{_or_}
+use Rattle.records.specs.Fills.{fills}
+use Rattle.minutiae.specs.Minutiae.{version, typed, quality}
+use Rattle.records.specs.declared.Extent.{Extent}
+use Rattle.records.specs.declared.Extent.the-variants.{Takes, None}
 
 -- a point
 abbrev pub pointTests : List ℕ → List Bool
@@ -24,7 +26,7 @@ pointsHold (suc m) s = pointHolds s && pointsHold m (drop 6 s)
 
 -- a view: how many bytes it takes, if one stands at the front of s
 abbrev pub viewTests : List ℕ → List Bool
-viewTests s = leb (field s 0 1) 10 ∷ impression .test (field s 1 1) ∷ quality .test (field s 2 1) ∷ []
+viewTests s = leb (field s 0 1) 10 ∷ (0 or 2) .test (field s 1 1) ∷ quality .test (field s 2 1) ∷ []
 
 unfoldable pub viewHead : List ℕ → Bool
 viewHead s = all (viewTests s)
@@ -47,16 +49,6 @@ recordTests d =
 unfoldable pub recordHead : List ℕ → Bool
 recordHead d = all (recordTests d)
 
--- after the second view nothing follows
-abbrev pub ended : List ℕ → ℕ → Extent → Bool
-ended d at None = false
-ended d at (Takes n) = eqb (at + n) (length d)
-
--- after the first view a second
-abbrev pub second : List ℕ → Extent → Bool
-second d None = false
-second d (Takes n) = ended d (26 + n) (extent (drop (26 + n) d))
-
 -- these bytes are a minutiae record
 unfoldable pub isMinutiae : List ℕ → Bool
-isMinutiae d = leb 26 (length d) && recordHead d && second d (extent (drop 26 d))
+isMinutiae d = leb 26 (length d) && recordHead d && fills extent 2 26 d

@@ -2,19 +2,15 @@
 ghost use mathlib.Core.Path.{_≡_};
 ghost use Prim.Native.Nat.{_*_, _≤_};
 ghost use lib.ListN.{length};
-ghost use Rattle.minutiae.specs.Minutiae.{impression, quality};
+ghost use Rattle.laws.specs.Format.{_or_};
+ghost use Rattle.minutiae.specs.Minutiae.{quality};
 ghost use Rattle.minutiae.specs.Judged.{pointHolds, pointsHold, viewHead, extent, recordHead, isMinutiae};
 use numbers::number;
+use records::Extent;
 
 // The version number, 20 32 30 30: document 004's figure (9.4.1 b), which decides. Document 01 has 20 32 30 00, and so do
 // the cards in the field, which are refused by it. It stands here and in the definition `version`, and nowhere else.
 const VERSION: u64 = 0x20323030;
-
-// What stands at the front of some bytes: a view that takes so many of them, or none.
-enum Extent {
-    Takes(usize),
-    None,
-}
 
 // "type in two bits, 0 to 2, x in 14; two zero bits, y in 14; angle 0 to 179; quality 0 to 100"
 fn point(s: &[u8]) -> bool
@@ -46,7 +42,7 @@ fn points(s: &[u8], count: usize) -> bool
 
 // "view number 0 in the high four bits, impression 0 or 2 in the low": the byte is 0 or 2.
 fn is_impression(i: u64) -> bool
-    ensures { λ r. ⌜ r ≡ impression .test i ⌝ }
+    ensures { λ r. ⌜ r ≡ (0 or 2) .test i ⌝ }
 {
     (i == 0) | (i == 2)
 }
@@ -123,8 +119,5 @@ pub fn is_minutiae(d: &[u8]) -> bool
     let Extent::Takes(two) = view(&d[next..]) else {
         return false;
     };
-    if next + two != d.len() {
-        return false;
-    }
-    true
+    next + two == d.len()
 }

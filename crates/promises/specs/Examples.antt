@@ -1,4 +1,4 @@
--- The examples of document 01, P1 to P14, those of requests 2026-04, 2026-13, 2026-02, 2026-01 and 2026-03, and further rows, as one table: what each row says, over the rules themselves, and the table.
+-- The examples of document 01, P1 to P14, those of requests 2026-04, 2026-13, 2026-02, 2026-01, 2026-03 and 2026-05, and further rows, as one table: what each row says, over the rules themselves, and the table.
 use Prim.Native.Nat.{ℕ, zero, suc, _+_}
 use mathlib.Core.Path.{_≡_}
 use mathlib.Core.Option.{Option, none, some}
@@ -141,14 +141,17 @@ printedSheet text = 0 ∷ 1 ∷ 0 ∷ 1 ∷ 0 ∷ (length text + 1) ∷ (text ++
 abbrev security : List ℕ
 security = container 5 (some [] ∷ some [] ∷ some [] ∷ [])
 
--- a CBEFF header: the data length, the format, the type, the data type and the quality given
+-- a CBEFF header: the data length, the format, the type, the data type, the quality, and its end given; the end: P1's FASC-N and the reserved bytes
 abbrev moment : List ℕ
 moment = 20 ∷ 26 ∷ 1 ∷ 1 ∷ 0 ∷ 0 ∷ 0 ∷ 0x5A ∷ []
 
-abbrev cbeffHead : ℕ → ℕ → ℕ → ℕ → ℕ → List ℕ
-cbeffHead d format sort type quality =
+abbrev cbeffEnd : List ℕ
+cbeffEnd = p1 0xEB ++ replicate 4 0
+
+abbrev cbeffHead : ℕ → ℕ → ℕ → ℕ → ℕ → List ℕ → List ℕ
+cbeffHead d format sort type quality ending =
     0x03 ∷ 0x0D ∷ 0 ∷ 0 ∷ 0 ∷ d ∷ 0 ∷ 1 ∷ 0x00 ∷ 0x1B ∷ format ∷ 0x01
-    ∷ (moment ++ (moment ++ (moment ++ (0 ∷ 0 ∷ sort ∷ type ∷ quality ∷ (replicate 18 0 ++ (p1 0xEB ++ (0 ∷ 0 ∷ 0 ∷ 0 ∷ [])))))))
+    ∷ (moment ++ (moment ++ (moment ++ (0 ∷ 0 ∷ sort ∷ type ∷ quality ∷ (replicate 18 0 ++ ending)))))
 
 -- a minutiae record without points
 abbrev record38 : List ℕ
@@ -157,10 +160,36 @@ record38 =
     ∷ (replicate 10 9 ++ (0 ∷ 197 ∷ 0 ∷ 197 ∷ 2 ∷ 0 ∷ 1 ∷ 0 ∷ 60 ∷ 0 ∷ 0 ∷ 0 ∷ 6 ∷ 2 ∷ 254 ∷ 0 ∷ 0 ∷ 0 ∷ []))
 
 abbrev fingers : ℕ → List ℕ
-fingers quality = container 6 (some (cbeffHead 38 0x02 0x08 0x80 quality ++ (record38 ++ (0x30 ∷ []))) ∷ some [] ∷ [])
+fingers quality = container 6 (some (cbeffHead 38 0x02 0x08 0x80 quality cbeffEnd ++ (record38 ++ (0x30 ∷ []))) ∷ some [] ∷ [])
+
+-- 2026-05: an image's information, its four fields that 9.6 names given; a block that says so many bytes and points; a record that says so many bytes and
+-- images
+abbrev about : ℕ → ℕ → ℕ → ℕ → List ℕ
+about image form colour source = image ∷ form ∷ 1 ∷ 0 ∷ 1 ∷ 64 ∷ colour ∷ source ∷ 0 ∷ 0 ∷ 0 ∷ 0 ∷ []
+
+abbrev block : ℕ → ℕ → List ℕ → List ℕ → List ℕ → List ℕ
+block size points bytes information pixels = 0 ∷ 0 ∷ 0 ∷ size ∷ 0 ∷ points ∷ (replicate 14 0xEE ++ (bytes ++ (information ++ pixels)))
+
+abbrev portraits : ℕ → ℕ → List ℕ → List ℕ
+portraits size images blocks = 0x46 ∷ 0x41 ∷ 0x43 ∷ 0x00 ∷ 0x30 ∷ 0x31 ∷ 0x30 ∷ 0x00 ∷ 0 ∷ 0 ∷ 0 ∷ size ∷ 0 ∷ images ∷ blocks
+
+-- a record of one image with six bytes of pixels, that says so many bytes, its block so many bytes and points
+abbrev portrait : ℕ → ℕ → ℕ → List ℕ → List ℕ
+portrait size blockSize points information = portraits size 1 (block blockSize points [] information (ascii "pixels"))
+
+-- a face's BC with this quality, this end of its header, and this record; its container
+abbrev faceValue : ℕ → List ℕ → List ℕ → List ℕ
+faceValue quality ending rec = cbeffHead (length rec) 0x05 0x02 0x20 quality ending ++ (rec ++ (0x30 ∷ []))
+
+abbrev faced : ℕ → List ℕ → List ℕ → List ℕ
+faced quality ending rec = container 7 (some (faceValue quality ending rec) ∷ some [] ∷ [])
+
+-- with nothing else wrong; and a good one
+abbrev recorded : List ℕ → List ℕ
+recorded rec = faced 0x64 cbeffEnd rec
 
 abbrev face : ℕ → List ℕ
-face quality = container 7 (some (cbeffHead 1 0x05 0x02 0x20 quality ++ (0xFF ∷ 0x30 ∷ [])) ∷ some [] ∷ [])
+face quality = faced quality cbeffEnd (portrait 52 38 0 (about 1 0 1 2))
 
 -- DER items of fewer than 128 bytes: a tag with its contents; nothing, as an item; an item inside so many SEQUENCEs
 abbrev item : ℕ → List ℕ → List ℕ
@@ -224,7 +253,7 @@ examples =
     ∷ conforms 6 (fingers 0xFF)
     ∷ breaks 6 (fingers 0x65) 21 3 (Of 0xBC)
     ∷ conforms 7 (face 0xFE)
-    ∷ breaks 7 (face 0xFF) 21 2 (Of 0xBC)
+    ∷ breaks 7 (face 0xFF) 21 3 (Of 0xBC)
     -- bytes after the outer end; a byte 5F without 2F; FE missing at the end
     ∷ breaks 5 (security ++ (0 ∷ [])) 12 0 NoTag
     ∷ breaks 3 (0x7E ∷ 0x02 ∷ 0x5F ∷ 0x00 ∷ []) 13 2 (Of 0x5F)
@@ -372,4 +401,33 @@ examples =
     ∷ writes 4 (printedSheet (ascii "2030JAN31")) 38 0 0 NoTag (printed (ascii "2030JAN31"))
     ∷ writes 4 (printedSheet (ascii "2030FEB30")) 38 19 4 (Of 0x04) []
     ∷ writes 4 (printedSheet (ascii "20300131")) 38 16 4 (Of 0x04) []
+    -- 2026-05: two images, the first with two feature points, the second without pixels; each field that 9.6 does not name at FF
+    ∷ conforms 7 (recorded (portraits 100 2 (block 54 2 (replicate 16 0xDD) (about 1 0 1 2) (ascii "pixels") ++ block 32 0 [] (about 1 1 1 6) [])))
+    ∷ conforms 7 (recorded (portraits 46 1 (0 ∷ 0 ∷ 0 ∷ 32 ∷ 0 ∷ 0 ∷ (replicate 14 0xFF ++ (1 ∷ 1 ∷ 0xFF ∷ 0xFF ∷ 0xFF ∷ 0xFF ∷ 1 ∷ 6 ∷ replicate 4 0xFF)))))
+    -- another format, another version; a record length of one less and of one more; no image, and one less than there should be
+    ∷ breaks 7 (recorded (0x46 ∷ 0x41 ∷ 0x43 ∷ 0x20 ∷ 0x30 ∷ 0x31 ∷ 0x30 ∷ 0x00 ∷ 0 ∷ 0 ∷ 0 ∷ 46 ∷ 0 ∷ 1 ∷ block 32 0 [] (about 1 0 1 2) [])) 26 3 (Of 0xBC)
+    ∷ breaks 7 (recorded (0x46 ∷ 0x41 ∷ 0x43 ∷ 0x00 ∷ 0x30 ∷ 0x31 ∷ 0x30 ∷ 0x30 ∷ 0 ∷ 0 ∷ 0 ∷ 46 ∷ 0 ∷ 1 ∷ block 32 0 [] (about 1 0 1 2) [])) 26 3 (Of 0xBC)
+    ∷ breaks 7 (recorded (portrait 51 38 0 (about 1 0 1 2))) 26 3 (Of 0xBC)
+    ∷ breaks 7 (recorded (portrait 53 38 0 (about 1 0 1 2))) 26 3 (Of 0xBC)
+    ∷ breaks 7 (recorded (portraits 14 0 [])) 26 2 (Of 0xBC)
+    ∷ breaks 7 (recorded (portraits 46 2 (block 32 0 [] (about 1 0 1 2) []))) 26 3 (Of 0xBC)
+    -- an image type 2, a data type 2, a colour space 0, a source type 3; the last in the second image alone
+    ∷ breaks 7 (recorded (portrait 52 38 0 (about 2 0 1 2))) 26 3 (Of 0xBC)
+    ∷ breaks 7 (recorded (portrait 52 38 0 (about 1 2 1 2))) 26 3 (Of 0xBC)
+    ∷ breaks 7 (recorded (portrait 52 38 0 (about 1 0 0 2))) 26 3 (Of 0xBC)
+    ∷ breaks 7 (recorded (portrait 52 38 0 (about 1 0 1 3))) 26 3 (Of 0xBC)
+    ∷ breaks 7 (recorded (portraits 78 2 (block 32 0 [] (about 1 0 1 2) [] ++ block 32 0 [] (about 1 0 1 3) []))) 26 3 (Of 0xBC)
+    -- a block one byte shorter than it is, and one longer; of 31 bytes; with more points than it has room for; a byte behind the last one
+    ∷ breaks 7 (recorded (portrait 52 37 0 (about 1 0 1 2))) 26 3 (Of 0xBC)
+    ∷ breaks 7 (recorded (portrait 52 39 0 (about 1 0 1 2))) 26 3 (Of 0xBC)
+    ∷ breaks 7 (recorded (portraits 45 1 (block 31 0 [] (1 ∷ 0 ∷ 1 ∷ 0 ∷ 1 ∷ 64 ∷ 1 ∷ 2 ∷ 0 ∷ 0 ∷ 0 ∷ []) []))) 26 3 (Of 0xBC)
+    ∷ breaks 7 (recorded (portrait 52 38 1 (about 1 0 1 2))) 26 3 (Of 0xBC)
+    ∷ breaks 7 (recorded (portraits 47 1 (block 32 0 [] (about 1 0 1 2) [] ++ (0 ∷ [])))) 26 3 (Of 0xBC)
+    -- a good header and rubbish after it; the quality, the FASC-N and the reserved bytes come before
+    ∷ breaks 7 (recorded (ascii "RUBBISH")) 26 2 (Of 0xBC)
+    ∷ breaks 7 (faced 0xFF cbeffEnd (ascii "RUBBISH")) 21 2 (Of 0xBC)
+    ∷ breaks 7 (faced 0x64 (p1 0xEA ++ replicate 4 0) (ascii "RUBBISH")) 17 2 (Of 0xBC)
+    ∷ breaks 7 (faced 0x64 (p1 0xEB ++ (0 ∷ 0 ∷ 0 ∷ 1 ∷ [])) (ascii "RUBBISH")) 21 2 (Of 0xBC)
+    -- and in a sheet
+    ∷ writes 7 (0 ∷ 97 ∷ (faceValue 0x64 cbeffEnd (ascii "RUBBISH") ++ (0 ∷ 1 ∷ []))) 200 26 0 (Of 0xBC) []
     ∷ []

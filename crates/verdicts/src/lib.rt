@@ -30,6 +30,7 @@ pub enum Fault {
     BadText,
     BadDer,
     TooDeep,
+    BadFace,
 }
 
 // What a value's rule answers.
@@ -103,6 +104,7 @@ pub fn number_of(f: Fault) -> u64
         Fault::BadText => 23,
         Fault::BadDer => 24,
         Fault::TooDeep => 25,
+        Fault::BadFace => 26,
     }
 }
 

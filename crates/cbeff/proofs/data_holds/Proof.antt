@@ -6,5 +6,8 @@ use Rattle.cbeff.proofs.data_holds.Tie as tie
 returns : tie.Need-returns
 returns c = rw (c .before .enum-told .given .1) (c .is-minutiae .ensures)
 
+returns-2 : tie.Need-returns-2
+returns-2 c = rw (c .before .enum-told2 .given .1) (c .is-facial .ensures)
+
 pub data-holds-spec : {M : Type 1} → statement M
-data-holds-spec = tie.close (tie.spec (λ c. search needs) (λ c κs. search needs) (λ c. search needs) returns (λ c. search needs))
+data-holds-spec = tie.close (tie.spec (λ c. search needs) (λ c κs. search needs) (λ c. search needs) (λ c κs. search needs) returns returns-2)

@@ -1,7 +1,10 @@
 -- `minutiae::is_minutiae` meets its contract. Assumes nothing.
 use Prim.Native.Nat.{ℕ, _+_, _-_, _≤_}
 use mathlib.Core.Path.{_≡_, sym, _∙_}
-use mathlib.Core.Bool.{true}
+use mathlib.Core.Bool.{true, false}
+use lib.Dec.{eqb}
+use Rattle.records.specs.Fills.{fills}
+use Rattle.records.proofs.Ways.{fills-next, fills-not, fills-ended}
 use mathlib.Core.List.{List}
 use native.Mathlib.Omega.{arith}
 use borrow.Author.Needs.{needs}
@@ -9,8 +12,8 @@ use borrow.Author.Tests.{not-true, not-false}
 use lib.ListN.{length, drop}
 use Rattle.laws.proofs.Turns.{rest}
 use Rattle.minutiae.specs.Judged.{recordHead, extent}
-use Rattle.minutiae.specs.declared.Extent.the-variants.{Takes}
-use Rattle.minutiae.proofs.Ways.{no-room, bad-record, no-first, no-second, left-over, whole}
+use Rattle.records.specs.declared.Extent.the-variants.{Takes}
+use Rattle.minutiae.proofs.Ways.{no-room, bad-record, by-views}
 use Rattle.minutiae.proofs.Tested.{view-inside}
 use Rattle.minutiae.proofs.is_minutiae.Statement.{statement}
 use Rattle.minutiae.proofs.is_minutiae.Tie as tie
@@ -44,21 +47,27 @@ second c = sym (c .before .two .given .1) ∙ rw rest at (c .before .before .bef
 second-inside : (c : tie.After-known-told2) → two c ≤ length (bytes (earlier c)) - (26 + one (earlier c))
 second-inside c = view-inside (26 + one (earlier c)) (bytes (earlier c)) (second c)
 
+-- what is left to say behind the second view
+ends : (c : tie.After-known-told2) → eqb (26 + one (earlier c) + two c) (length (bytes (earlier c))) ≡ fills extent 2 26 (bytes (earlier c))
+ends c =
+    fills-ended extent 0 (26 + one (earlier c) + two c) (bytes (earlier c)) (omega arith)
+    ∙ fills-next extent 1 (26 + one (earlier c)) (bytes (earlier c)) (omega arith) (second c)
+    ∙ fills-next extent 2 26 (bytes (earlier c)) (omega arith) (first (earlier c))
+
+returns-3 : tie.Need-returns-3
+returns-3 c =
+    by-views _ (omega arith) (head (c .before .before .before .before)) false
+    (fills-not extent 2 26 _ (omega arith) (sym (c .enum-told .given .1) ∙ rw rest at (c .before .before .view .ensures)))
+
 returns-4 : tie.Need-returns-4
 returns-4 c =
     let k = c .before .before .before .before in
-    no-second _ (omega arith) (head (k .before .before .before .before .before)) _ (first k)
-    (sym (c .enum-told2 .given .1) ∙ rw rest at (c .before .before .view2 .ensures))
+    by-views _ (omega arith) (head (k .before .before .before .before .before)) false
+    (fills-not extent 1 (26 + one k) (bytes k) (omega arith) (sym (c .enum-told2 .given .1) ∙ rw rest at (c .before .before .view2 .ensures))
+    ∙ fills-next extent 2 26 (bytes k) (omega arith) (first k))
 
 returns-5 : tie.Need-returns-5
-returns-5 c =
-    let k = earlier (c .before) in
-    left-over _ (omega arith) (head (k .before .before .before .before .before)) _ (first k) _ (second (c .before)) (c .if3 .taken)
-
-returns-6 : tie.Need-returns-6
-returns-6 c =
-    let k = earlier (c .before) in
-    whole _ (omega arith) (head (k .before .before .before .before .before)) _ (first k) _ (second (c .before)) (c .if3 .left)
+returns-5 c = by-views _ (omega arith) (head (earlier c .before .before .before .before .before)) _ (ends c)
 
 pub is-minutiae-spec : {M : Type 1} → statement M
 is-minutiae-spec =
@@ -73,7 +82,7 @@ is-minutiae-spec =
     (λ c κs. search needs)
     (λ c. search needs)
     (λ c. search needs)
-    (λ c. no-first _ (omega arith) (head (c .before .before .before .before)) (sym (c .enum-told .given .1) ∙ rw rest at (c .before .before .view .ensures)))
+    returns-3
     (λ c. omega (arith, first-inside c))
     (λ c. omega (arith, first-inside c))
     (λ c. omega (arith, first-inside c))
@@ -83,5 +92,4 @@ is-minutiae-spec =
     (λ c. search needs)
     returns-4
     (λ c. omega (arith, first-inside (earlier c), second-inside c))
-    returns-5
-    returns-6)
+    returns-5)

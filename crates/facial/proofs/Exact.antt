@@ -1,0 +1,110 @@
+-- The tested form is true exactly where the record's table is laid out. Assumes nothing.
+use Prim.Native.Nat.{ℕ, _+_, _-_, _*_, _≤_}
+use mathlib.Core.Path.{_≡_, sym, ap, _∙_}
+use mathlib.Core.Logic.{_↔_}
+use mathlib.Core.Bool.{true, cond, _&&_}
+use mathlib.Core.List.{List}
+use native.Mathlib.Omega.{arith}
+use native.Mathlib.Nat.{add-zero}
+use lib.ListN.{length, drop, length-drop}
+use lib.Seq.{drop-drop}
+use lib.Dec.{leb}
+use borrow.Author.Tests.{le-leb, leb-true}
+use Rattle.laws.specs.Bytes.{Bytes}
+use Rattle.laws.specs.Layout.{field}
+use Rattle.laws.specs.Format.{Format, end, kept, breaks, free, times}
+use Rattle.laws.proofs.Cases.{and-true}
+use Rattle.laws.proofs.Formats.{inside, format-exact, skim, skim-keeps, cond-and, kept-if}
+use Rattle.records.specs.Fills.{fills}
+use Rattle.records.specs.declared.Extent.the-variants.{Takes}
+use Rattle.records.proofs.Exact.{Extends, fills-exact}
+use Rattle.facial.specs.Facial.{information, block, facial, IsFacial}
+use Rattle.facial.specs.Judged.{informed, extent, recordHead, isFacial}
+use Rattle.facial.proofs.Agreed.{facial-agrees}
+use Rattle.facial.proofs.Told.{block-told}
+use Rattle.facial.proofs.Ways.{takes}
+
+information-judged : (k : Format (Unit {0})) (at : ℕ) (d : List ℕ) → skim (information k) at d ≡ cond (informed (drop at d)) (skim k (at + 12) d) (breaks tt)
+unfolding informed
+information-judged k at d =
+    let a : at + 1 + 1 ≡ at + 2 = omega arith in
+    let b : at + 2 + 4 ≡ at + 6 = omega arith in
+    let c : at + 6 + 1 ≡ at + 7 = omega arith in
+    let e : at + 7 + 1 ≡ at + 8 = omega arith in
+    let f : at + 8 + 4 ≡ at + 12 = omega arith in
+    simp (a, b, c, e, f, drop-drop, add-zero, cond-and)
+
+-- what a block says of itself: how many bytes it has, and how many feature points
+abbrev size : ℕ → List ℕ → ℕ
+size at d = field d at 4
+
+abbrev points : ℕ → List ℕ → ℕ
+points at d = field d (at + 4) 2
+
+block-judged : (k : Format (Unit {0})) (at : ℕ) (d : List ℕ)
+    → skim (block k) at d
+    ≡ cond (leb (32 + 8 * points at d) (size at d) && informed (drop (at + (20 + 8 * points at d)) d))
+    (skim k (at + (20 + 8 * points at d) + 12 + (size at d - (32 + 8 * points at d))) d)
+    (breaks tt)
+block-judged k at d =
+    let a : at + 4 + 2 + 14 + 8 * points at d ≡ at + (20 + 8 * points at d) = omega arith in
+    simp (a, cond-and)
+    (ap (λ j. cond (leb (32 + 8 * points at d) (size at d)) j (breaks tt))
+    (information-judged (free (size at d - (32 + 8 * points at d)) k) (at + (20 + 8 * points at d)) d))
+
+-- a block that is taken, in the table's terms
+taken : (k : Format (Unit {0})) (at : ℕ) (d : List ℕ) (n : ℕ) → extent (drop at d) ≡ Takes n → skim k (at + n) d ≡ kept → skim (block k) at d ≡ kept
+taken k at d n e r =
+    let t = block-told (drop at d) e in
+    let q : field (drop at d) 0 4 ≡ size at d = simp (drop-drop, add-zero) in
+    let p : field (drop at d) 4 2 ≡ points at d = simp drop-drop in
+    let room : 32 + 8 * points at d ≤ size at d = omega (arith, rw p at (t .room), rw q at (t .size)) in
+    let image : informed (drop (at + (20 + 8 * points at d)) d) ≡ true = rw (p, drop-drop) at (t .image) in
+    let w : at + (20 + 8 * points at d) + 12 + (size at d - (32 + 8 * points at d)) ≡ at + n = omega (arith, rw q at (t .size)) in
+    rw (block-judged k at d, le-leb _ _ room, image, w, r)
+
+-- and back
+given : (k : Format (Unit {0})) (at : ℕ) (d : List ℕ) → skim (block k) at d ≡ kept
+    → (n : ℕ) × (extent (drop at d) ≡ Takes n) × (skim k (at + n) d ≡ kept)
+given k at d e =
+    let n : ℕ = size at d in
+    let p : ℕ = points at d in
+    let j = kept-if (leb (32 + 8 * p) n && informed (drop (at + (20 + 8 * p)) d)) (skim k (at + (20 + 8 * p) + 12 + (n - (32 + 8 * p))) d) tt (sym (block-judged k at d) ∙ e) in
+    let b = and-true (leb (32 + 8 * p) n) _ (j .0) in
+    let room : 32 + 8 * p ≤ n = leb-true _ _ (b .0) in
+    let i = inside k (at + (20 + 8 * p) + 12 + (n - (32 + 8 * p))) d (j .1) in
+    let w : at + (20 + 8 * p) + 12 + (n - (32 + 8 * p)) ≡ at + n = omega arith in
+    let l : n ≤ length (drop at d) = rw length-drop (omega arith) in
+    let q : n ≡ field (drop at d) 0 4 = simp (drop-drop, add-zero) in
+    let c : p ≡ field (drop at d) 4 2 = simp drop-drop in
+    let image : true ≡ informed (drop (20 + 8 * p) (drop at d)) = rw drop-drop (sym (b .1)) in
+    (n, sym (takes (drop at d) (omega arith) n p q c room l image), rw w at (j .1))
+
+blocks : Extends block extent
+blocks = record { taken = taken; given = given }
+
+record-judged : (d : List ℕ) → skim (facial (length d)) 0 d ≡ cond (recordHead d) (skim (times (field d 12 2) block (end tt)) 14 d) (breaks tt)
+unfolding recordHead
+record-judged d = simp cond-and
+
+true-kept : (d : List ℕ) → isFacial d ≡ true → skim (facial (length d)) 0 d ≡ kept
+unfolding isFacial
+true-kept d e =
+    let a = and-true (leb 14 (length d) && recordHead d) (fills extent (field d 12 2) 14 d) e in
+    let h = and-true (leb 14 (length d)) (recordHead d) (a .0) in
+    rw (record-judged d, h .1) (fills-exact block extent blocks (field d 12 2) 14 d .0 (a .1))
+
+kept-true : (d : List ℕ) → skim (facial (length d)) 0 d ≡ kept → isFacial d ≡ true
+unfolding isFacial
+kept-true d e =
+    let f = times (field d 12 2) block (end tt) in
+    let a = kept-if (recordHead d) (skim f 14 d) tt (sym (record-judged d) ∙ e) in
+    rw (le-leb _ _ (inside f 14 d (a .1)), a .0) (fills-exact block extent blocks (field d 12 2) 14 d .1 (a .1))
+
+-- the test says that these bytes are a facial record exactly when they are one
+pub facial-exact : (d : List ℕ) → Bytes d → (isFacial d ≡ true) ↔ IsFacial d
+facial-exact d b =
+    let f = facial (length d) in
+    let x = format-exact f (facial-agrees (length d)) d b in
+    let k = skim-keeps f 0 d in
+    (λ e. x .0 (k .1 (true-kept d e)), λ l. kept-true d (k .0 (x .1 l)))

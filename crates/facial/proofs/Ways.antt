@@ -1,0 +1,51 @@
+-- What the tested form answers on each way out of the code. Assumes nothing.
+use Prim.Native.Nat.{ℕ, _+_, _*_, _<_, _≤_}
+use mathlib.Core.Path.{_≡_}
+use mathlib.Core.Bool.{Bool, true, false}
+use mathlib.Core.List.{List}
+use lib.ListN.{length, drop}
+use borrow.Author.Tests.{le-leb, lt-leb}
+use Rattle.laws.specs.Layout.{field}
+use Rattle.records.specs.Fills.{fills}
+use Rattle.records.specs.declared.Extent.the-variants.{Takes, None}
+use Rattle.facial.specs.Judged.{informed, extent, recordHead, isFacial}
+
+-- ---- a block
+module _ (s : List ℕ) where
+  pub too-short : length s < 32 → None ≡ extent s
+  unfolding extent
+  too-short h = rw (lt-leb 32 (length s) h)
+
+  module _ (l : 32 ≤ length s) (size p : ℕ) (e : size ≡ field s 0 4) (f : p ≡ field s 4 2) where
+    pub no-room : size < 32 + 8 * p → None ≡ extent s
+    unfolding extent
+    no-room h = rw (le-leb 32 (length s) l, ← e, ← f, lt-leb (32 + 8 * p) size h)
+
+    module _ (r : 32 + 8 * p ≤ size) where
+      pub cut-short : length s < size → None ≡ extent s
+      unfolding extent
+      cut-short h = rw (le-leb 32 (length s) l, ← e, ← f, le-leb (32 + 8 * p) size r, lt-leb size (length s) h)
+
+      module _ (w : size ≤ length s) where
+        pub bad-image : false ≡ informed (drop (20 + 8 * p) s) → None ≡ extent s
+        unfolding extent
+        bad-image h = rw (le-leb 32 (length s) l, ← e, ← f, le-leb (32 + 8 * p) size r, le-leb size (length s) w, ← h)
+
+        pub takes : true ≡ informed (drop (20 + 8 * p) s) → Takes size ≡ extent s
+        unfolding extent
+        takes h = rw (le-leb 32 (length s) l, ← e, ← f, le-leb (32 + 8 * p) size r, le-leb size (length s) w, ← h)
+
+-- ---- the record
+module _ (d : List ℕ) where
+  pub no-header : length d < 14 → false ≡ isFacial d
+  unfolding isFacial
+  no-header h = rw (lt-leb 14 (length d) h)
+
+  module _ (l : 14 ≤ length d) where
+    pub bad-header : false ≡ recordHead d → false ≡ isFacial d
+    unfolding isFacial
+    bad-header h = rw (le-leb 14 (length d) l, ← h)
+
+    pub by-images : true ≡ recordHead d → (n : ℕ) → n ≡ field d 12 2 → (b : Bool) → b ≡ fills extent n 14 d → b ≡ isFacial d
+    unfolding isFacial
+    by-images h n e b f = rw (le-leb 14 (length d) l, ← h, ← e, f)

@@ -1,0 +1,2 @@
+pub mod Facial
+pub mod Judged

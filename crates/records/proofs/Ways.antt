@@ -1,0 +1,48 @@
+-- What `fills` answers on each way out of code that goes through the parts. Assumes nothing.
+use Prim.Native.Nat.{ℕ, zero, suc, _+_, _-_, _<_, _≤_}
+use mathlib.Core.Path.{_≡_, refl}
+use mathlib.Core.Bool.{Bool, true, false, cond, false≢true}
+use mathlib.Core.List.{List}
+use native.Mathlib.Omega.{arith}
+use native.Mathlib.Nat.{not-suc-le-zero}
+use lib.ListN.{length, drop}
+use lib.Dec.{eqb}
+use borrow.Author.Tests.{eqb-true}
+use Rattle.records.specs.Fills.{behind, fills}
+use Rattle.records.specs.declared.Extent.{Extent}
+use Rattle.records.specs.declared.Extent.the-variants.{Takes, None}
+
+-- a test says how many bytes there are, or none
+pub takes-of : (b : Bool) (x : Extent) {n : ℕ} → cond b x None ≡ Takes n → (b ≡ true) × (x ≡ Takes n)
+takes-of true x e = (refl, e)
+takes-of false x e = let z : _≡_ {A = ℕ} 0 1 = cc in absurd (omega arith)
+
+behind-told : (x : Extent) (f : ℕ → Bool) → behind x f ≡ true → (n : ℕ) × (x ≡ Takes n) × (f n ≡ true)
+behind-told (Takes n) f e = (n, refl, e)
+behind-told None f e = absurd (false≢true e)
+
+module _ (extent : List ℕ → Extent) where
+  pub fills-next : (m at : ℕ) (d : List ℕ) {n : ℕ} → 0 < m → Takes n ≡ extent (drop at d) → fills extent (m - 1) (at + n) d ≡ fills extent m at d
+  unfolding fills
+  fills-next zero at d h e = absurd (not-suc-le-zero h)
+  fills-next (suc m) at d h e = let p : suc m - 1 ≡ m = omega arith in rw (← e, p)
+
+  pub fills-not : (m at : ℕ) (d : List ℕ) → 0 < m → None ≡ extent (drop at d) → false ≡ fills extent m at d
+  unfolding fills
+  fills-not zero at d h e = absurd (not-suc-le-zero h)
+  fills-not (suc m) at d h e = rw (← e)
+
+  pub fills-ended : (m at : ℕ) (d : List ℕ) → m ≤ 0 → eqb at (length d) ≡ fills extent m at d
+  unfolding fills
+  fills-ended zero at d h = refl
+  fills-ended (suc m) at d h = absurd (not-suc-le-zero h)
+
+  -- ---- and taken back
+
+  pub fills-told : (m at : ℕ) (d : List ℕ) → fills extent (suc m) at d ≡ true → (n : ℕ) × (extent (drop at d) ≡ Takes n) × (fills extent m (at + n) d ≡ true)
+  unfolding fills
+  fills-told m at d e = behind-told (extent (drop at d)) (λ n. fills extent m (at + n) d) e
+
+  pub fills-whole : (at : ℕ) (d : List ℕ) → fills extent 0 at d ≡ true → at ≡ length d
+  unfolding fills
+  fills-whole at d e = eqb-true at (length d) e
