@@ -44,6 +44,20 @@ static const uint8_t eight_digits[37] = {
     'S', 'U', 'E', 'R', '-', 'A', 'B', 'C', 'D', 'E', 'F', 'G', 'H', 0xFE, 0x00,
 };
 
+// A face that conforms, with the smallest record: its header stands at 94, the block of its one image at 108 and the image's
+// information at 128. The FASC-N ends at 89, and the reserved bytes at 93.
+static const uint8_t face[143] = {
+    0x53, 0x81, 0x8C, 0xBC, 0x81, 0x87, 0x03, 0x0D, 0x00, 0x00, 0x00, 0x2E, 0x00, 0x01, 0x00, 0x1B,
+    0x05, 0x01, 0x14, 0x1A, 0x03, 0x01, 0x0A, 0x1E, 0x3B, 0x5A, 0x14, 0x1A, 0x03, 0x01, 0x0A, 0x1E,
+    0x3B, 0x5A, 0x14, 0x1A, 0x03, 0x01, 0x0A, 0x1E, 0x3B, 0x5A, 0x00, 0x00, 0x02, 0x20, 0x64, 0x00,
+    0x00, 0x00, 0x00, 0x00, 0x00, 0x00, 0x00, 0x00, 0x00, 0x00, 0x00, 0x00, 0x00, 0x00, 0x00, 0x00,
+    0x00, 0xD4, 0x11, 0x92, 0x58, 0x21, 0x0C, 0x2C, 0x10, 0x84, 0x21, 0xAD, 0xA1, 0x68, 0x58, 0x21,
+    0x08, 0x42, 0x10, 0x84, 0x3C, 0x84, 0x11, 0x92, 0x43, 0xEB, 0x00, 0x00, 0x00, 0x00, 0x46, 0x41,
+    0x43, 0x00, 0x30, 0x31, 0x30, 0x00, 0x00, 0x00, 0x00, 0x2E, 0x00, 0x01, 0x00, 0x00, 0x00, 0x20,
+    0x00, 0x00, 0x00, 0x00, 0x00, 0x00, 0x00, 0x00, 0x00, 0x00, 0x00, 0x00, 0x00, 0x00, 0x00, 0x00,
+    0x01, 0x01, 0x01, 0x00, 0x01, 0x40, 0x01, 0x02, 0x00, 0x00, 0x00, 0x00, 0x30, 0xFE, 0x00,
+};
+
 static const uint8_t too_large[PROSIANEK_LARGEST_CONTAINER + 1];
 
 // What the calls are lent. The room is longer than any size that is lent of it, so that a byte written behind it shows.
@@ -156,7 +170,7 @@ static void breaks(const char *what, uint64_t kind, const uint8_t *c, size_t siz
 // The same of a container in which one byte is another.
 static void breaks_at(const char *what, uint64_t kind, const uint8_t *c, size_t size, size_t at, uint8_t byte,
                       uint64_t expected, uint64_t where, uint64_t which) {
-    uint8_t changed[100];
+    uint8_t changed[sizeof face];
     memcpy(changed, c, size);
     changed[at] = byte;
     breaks(what, kind, changed, size, expected, where, which);
@@ -227,6 +241,30 @@ static void printed_dates(void) {
     breaks("a printed date of eight digits", kind, eight_digits, sizeof eight_digits, PROSIANEK_ELEMENT_LENGTH, 6, 0x04);
 }
 
+// A face record that conforms, and the same with a byte changed; what is wrong in the header comes before.
+static void face_records(void) {
+    const uint64_t kind = PROSIANEK_FACE;
+    const size_t size = sizeof face;
+    check("check, a face record, no room", kind, TODAY, face, size, 0, PROSIANEK_DONE);
+    breaks_at("another format of record", kind, face, size, 97, 0x20, PROSIANEK_BAD_FACE, 3, 0xBC);
+    breaks_at("another version of record", kind, face, size, 101, 0x30, PROSIANEK_BAD_FACE, 3, 0xBC);
+    breaks_at("a record length of one more", kind, face, size, 105, 47, PROSIANEK_BAD_FACE, 3, 0xBC);
+    breaks_at("no image", kind, face, size, 107, 0, PROSIANEK_BAD_FACE, 3, 0xBC);
+    breaks_at("a block of one byte less", kind, face, size, 111, 31, PROSIANEK_BAD_FACE, 3, 0xBC);
+    breaks_at("a block of one byte more", kind, face, size, 111, 33, PROSIANEK_BAD_FACE, 3, 0xBC);
+    breaks_at("a point without room", kind, face, size, 113, 1, PROSIANEK_BAD_FACE, 3, 0xBC);
+    breaks_at("an image type 2", kind, face, size, 128, 2, PROSIANEK_BAD_FACE, 3, 0xBC);
+    breaks_at("a data type 2", kind, face, size, 129, 2, PROSIANEK_BAD_FACE, 3, 0xBC);
+    breaks_at("a colour space 0", kind, face, size, 134, 0, PROSIANEK_BAD_FACE, 3, 0xBC);
+    breaks_at("a source type 3", kind, face, size, 135, 3, PROSIANEK_BAD_FACE, 3, 0xBC);
+
+    uint8_t both[sizeof face];
+    memcpy(both, face, size);
+    both[135] = 3;
+    breaks_at("a check character and a source type", kind, both, size, 89, 0xEA, PROSIANEK_BAD_FASCN, 3, 0xBC);
+    breaks_at("reserved bytes and a source type", kind, both, size, 93, 1, PROSIANEK_BAD_HEADER, 3, 0xBC);
+}
+
 static void decode(const char *what, const uint8_t *bytes, size_t size) {
     stale();
     answers(what, prosianek_fascn_decode(bytes, size, numbers), PROSIANEK_BAD_FASCN);
@@ -293,6 +331,7 @@ int main(void) {
     elements();
     rows(sheet);
     printed_dates();
+    face_records();
     for (uint64_t kind = PROSIANEK_PIVAUTH; kind <= PROSIANEK_CARDAUTH; kind++) certificates(kind);
 
     // Each of the nine numbers with one digit too many; that comes before the room.
