@@ -8,7 +8,9 @@
 //! All go over the same cases in the same order, for each first Prosianek, then Rust.
 
 use second::card::{all_kinds, kind_of, Rule, CONFORMS};
+use second::faces::{facial, Image};
 use second::generate::{certificate_kinds, endless_row, Card, Form, Forms, LONGEST_FORM};
+use second::samples::face;
 use second::trees::{certificate_of_pairs, Tree};
 use second::{number, tag_number};
 use std::arch::asm;
@@ -23,6 +25,7 @@ const TODAY: u64 = 2026_03_01;
 const LARGEST: usize = second::CONTAINER_MAX;
 const CHUID: u64 = 2;
 const FINGERS: u64 = 6;
+const FACE: u64 = 7;
 const PIVAUTH: u64 = 8;
 
 // ---------------------------------------------------------------------------------------------
@@ -257,19 +260,32 @@ fn filling(length: usize) -> Vec<u8> {
     (b' '..=b'~').cycle().take(length).collect()
 }
 
-/// The value of a row that has no longest one with so many bytes more: of any kind in 3E, of the signature in BC. In 70 it is a
-/// certificate of items of two bytes.
+/// The value of a row that has no longest one with so many bytes more: of any kind in 3E, in BC of the signature of fingers and of
+/// the pixels of a face. In 70 it is a certificate of items of two bytes.
 fn longer(rule: Rule, value: &[u8], more: usize) -> Vec<u8> {
     let mut longer = [value, &filling(more)[..]].concat();
     match rule {
         Rule::Certificate => certificate_of_pairs(longer.len()).expect("a certificate of so many bytes"),
-        Rule::Fingers | Rule::Face => {
+        Rule::Fingers => {
             let signature = u16::from_be_bytes([value[6], value[7]]) + more as u16;
             longer[6..8].copy_from_slice(&signature.to_be_bytes());
             longer
         }
+        Rule::Face => with_pixels(value, more),
         _ => longer,
     }
+}
+
+/// The value of a face with one image, with so many more bytes of pixels.
+fn with_pixels(value: &[u8], more: usize) -> Vec<u8> {
+    let number = |at: usize| u32::from_be_bytes(value[at..at + 4].try_into().unwrap());
+    let record_end = 88 + number(2) as usize;
+    let mut longer = [&value[..record_end], &filling(more), &value[record_end..]].concat();
+    // the length of the data, that of the record and that of the image's block
+    for at in [2, 88 + 8, 88 + 14] {
+        longer[at..at + 4].copy_from_slice(&(number(at) + more as u32).to_be_bytes());
+    }
+    longer
 }
 
 /// The container with these values, its endless row lengthened so that it has `total` bytes.
@@ -347,6 +363,14 @@ fn container_cases(what: &str, kind: u64, container: &[u8]) -> Vec<Case> {
     ]
 }
 
+/// The calls on a face with as many images as a container can hold, 32 bytes each.
+fn image_cases() -> Vec<Case> {
+    // what BC has beside the images, with one byte of signature, and what the container has beside BC
+    let images = (LARGEST - 10 - 88 - 14 - 1) / 32;
+    let container = face(100, &facial(&vec![Image::plain(0, 0); images]), 1).container();
+    container_cases(&format!(" of {} images", commas(images as u64)), FACE, &container)
+}
+
 /// The check of a certificate of so many items, all but two of them of two bytes.
 fn item_cases(items: usize) -> Vec<Case> {
     let pairs = Tree::sequence(vec![Tree::empty(); items - 4]);
@@ -420,6 +444,9 @@ fn tables() -> Vec<(&'static str, Vec<Case>)> {
         kinds.extend(container_cases(" typical", kind, &typical));
         if largest.len() > typical.len() {
             kinds.extend(container_cases(" largest", kind, &largest));
+        }
+        if kind == FACE {
+            kinds.extend(image_cases());
         }
     }
     kinds.extend(fascn_cases());

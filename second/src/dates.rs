@@ -3,8 +3,8 @@
 
 use crate::batch::{Call, Record};
 use crate::generate::{damage_digits, date, eight, plain, Card, Rng, EXAMPLE_DAY, EXAMPLE_FASCN, YEARS};
-use crate::samples;
 use crate::values::{days, MONTHS};
+use crate::{faces, samples};
 
 /// A year, three letters and a day, whether or not they make a date.
 fn text(year: u64, letters: &[u8; 3], day: u64) -> Vec<u8> {
@@ -138,7 +138,7 @@ pub fn edges_in_numbers() -> Vec<(u64, u64, u64)> {
 pub fn in_numbers((year, month, day): (u64, u64, u64)) -> [Record; 3] {
     let number = year * 10_000 + month * 100 + day;
     let check = |today, card: Card| Record { today, ..plain(Call::Check, card.kind, card.container()) };
-    let mut biometric = samples::face(0xFE, 1, 1);
+    let mut biometric = samples::face(0xFE, &faces::least(), 1);
     let value = biometric.rows[0].as_mut().expect("a biometric has a value");
     value[12..16].copy_from_slice(&[year / 100, year % 100, month, day].map(|part| part as u8));
     [

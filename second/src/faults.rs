@@ -314,11 +314,7 @@ impl Whole {
 
 /// Values that have a permitted length and break the rule, each of its numbers at least once.
 fn broken_values(rule: Rule, value: &[u8]) -> Vec<Vec<u8>> {
-    let turned = |at: usize| {
-        let mut out = value.to_vec();
-        out[at] ^= 1;
-        out
-    };
+    let turned = |at: usize| with_bits_turned(value, at, 1);
     let fascn = values::HEADER_FASCN.start;
     match rule {
         Rule::Any => Vec::new(),
@@ -331,7 +327,24 @@ fn broken_values(rule: Rule, value: &[u8]) -> Vec<Vec<u8>> {
         Rule::Text if value.is_empty() => vec![vec![0x1F], vec![0x7F]],
         Rule::Text => [0x1F, 0x7F].map(|byte| [&value[1..], &[byte]].concat()).to_vec(),
         Rule::Fingers => vec![turned(0), turned(fascn), turned(87), turned(values::HEADER_BYTES)],
-        Rule::Face => vec![turned(0), turned(fascn), turned(87)],
+        Rule::Face => [vec![turned(0), turned(fascn), turned(87)], broken_records(value)].concat(),
         Rule::Certificate => vec![turned(0), Vec::new(), trees::down_to(9, 5, &[]).bytes()],
     }
+}
+
+fn with_bits_turned(value: &[u8], at: usize, bits: u8) -> Vec<u8> {
+    let mut out = value.to_vec();
+    out[at] ^= bits;
+    out
+}
+
+/// The value of BC with a fault in each field of its facial record that is examined: format, version, length, number of images, and
+/// of the first image the length of its block, type, data type, colour space and source type. With a 2 more or less none is good.
+fn broken_records(value: &[u8]) -> Vec<Vec<u8>> {
+    let record = values::HEADER_BYTES;
+    let block = record + values::FACIAL_HEADER_BYTES;
+    let points = usize::from(u16::from_be_bytes([value[block + 4], value[block + 5]]));
+    let image = block + values::FACIAL_INFORMATION_BYTES + values::FEATURE_POINT_BYTES * points;
+    let fields = [record + 3, record + 7, record + 11, record + 13, block + 3, image, image + 1, image + 6, image + 7];
+    fields.map(|at| with_bits_turned(value, at, 2)).to_vec()
 }

@@ -3,7 +3,7 @@
 use crate::batch::{Call, Record, BYTES_MAX, ROOM_MAX};
 use crate::card::{self, all_kinds, Rule, LAST_KIND, ROWS_MAX};
 use crate::values::{self, fascn_encode, fascn_pack, fascn_values, is_date};
-use crate::{dates, faults, lengths, trees, CONTAINER_MAX, NO_TAG, REPORT_MAX, SHEET_ROOM};
+use crate::{dates, faces, faults, lengths, trees, CONTAINER_MAX, NO_TAG, REPORT_MAX, SHEET_ROOM};
 
 /// splitmix64.
 pub struct Rng(u64);
@@ -360,7 +360,7 @@ fn minutiae_count(rng: &mut Rng) -> usize {
 }
 
 /// A length of mostly few bytes, at times one where the length form changes, rarely a long one.
-fn any_length(rng: &mut Rng, low: usize, high: usize) -> usize {
+pub fn any_length(rng: &mut Rng, low: usize, high: usize) -> usize {
     let n = match rng.below(200) {
         0..=23 => low,
         24..=38 => rng.pick(&[127, 128, 129, 255, 256, 257]),
@@ -423,8 +423,7 @@ pub fn conforming_on(rng: &mut Rng, kind: u64, today: u64) -> Card {
                 biometric(rng, false, &data, signature)
             }
             Rule::Face => {
-                let data = any_length(rng, 1, 4_000);
-                let data = rng.bytes(data);
+                let data = faces::record(rng);
                 let signature = any_length(rng, 1, 4_000);
                 biometric(rng, true, &data, signature)
             }
@@ -468,10 +467,11 @@ pub fn value_of(rng: &mut Rng, rule: Rule, length: usize) -> Option<Vec<u8>> {
             let signature = body.checked_sub(data.len()).filter(|&signature| signature > 0)?;
             biometric(rng, false, &data, signature)
         }
-        Rule::Face if body < 2 => return None,
         Rule::Face => {
-            let signature = rng.size(1, body.min(20_000) - 1);
-            let data = rng.bytes(body - signature);
+            // what is left by the least record and a byte of signature
+            let spare = body.checked_sub(faces::LEAST_RECORD + 1)?;
+            let signature = 1 + rng.size(0, spare.min(20_000));
+            let data = faces::record_of(rng, body - signature);
             biometric(rng, true, &data, signature)
         }
         Rule::Certificate => trees::certificate_of(rng, length)?,
@@ -526,7 +526,7 @@ pub fn personal_twin(rng: &mut Rng, card: &Card) -> Card {
                 let face = row.rule == Rule::Face;
                 let data_length = u32::from_be_bytes([value[2], value[3], value[4], value[5]]) as usize;
                 let data = if face {
-                    rng.bytes(data_length)
+                    faces::record_of(rng, data_length)
                 } else {
                     let points = (data_length - 38) / 6;
                     let first = rng.size(points.saturating_sub(128), points.min(128));
@@ -923,6 +923,21 @@ fn damage_minutiae(rng: &mut Rng, bc: &mut Vec<u8>) {
     }
 }
 
+/// Puts a damaged facial record into BC, whose data length follows.
+fn damage_facial(rng: &mut Rng, bc: &mut Vec<u8>) {
+    if bc.len() < 88 {
+        return;
+    }
+    let data = u32::from_be_bytes([bc[2], bc[3], bc[4], bc[5]]) as usize;
+    if bc.len() <= 88 + data {
+        return;
+    }
+    let record = faces::damaged(rng);
+    let signature = u16::from_be_bytes([bc[6], bc[7]]);
+    set_lengths(bc, record.len() as u32, signature);
+    bc.splice(88..88 + data, record);
+}
+
 /// Damages one value of the card, or its length or presence.
 fn damage_value(rng: &mut Rng, card: &mut Card) {
     let table = card.table();
@@ -1006,18 +1021,18 @@ fn damage_value(rng: &mut Rng, card: &mut Card) {
                 }
             },
             Rule::Text => damage_text(rng, value),
-            Rule::Fingers => {
+            rule @ (Rule::Fingers | Rule::Face) => {
+                let damage_record = if rule == Rule::Face { damage_facial } else { damage_minutiae };
                 if rng.one_in(2) {
                     damage_header(rng, value);
                 } else {
-                    damage_minutiae(rng, value);
+                    damage_record(rng, value);
                 }
                 if rng.one_in(20) {
-                    damage_minutiae(rng, value);
+                    damage_record(rng, value);
                     damage_header(rng, value);
                 }
             }
-            Rule::Face => damage_header(rng, value),
             Rule::Certificate => trees::damage(rng, value),
         },
     }
@@ -1601,10 +1616,7 @@ fn big_write_record(rng: &mut Rng, mut card: Card) -> Record {
     if rng.one_in(12) {
         // The longest section that a sheet can hold.
         let row = endless_row(card.kind).expect("it has such a row");
-        card.rows[row] = match card.table()[row].rule {
-            Rule::Certificate => trees::certificate_of(rng, 65_534),
-            _ => Some(rng.bytes(65_534)),
-        };
+        card.rows[row] = value_of(rng, card.table()[row].rule, 65_534);
     }
     let rooms = if total > CONTAINER_MAX { [0, 0, 100, total] } else { [0, total - 1, total, total + 1] };
     let room = rng.pick(&rooms).min(ROOM_MAX);
@@ -1718,7 +1730,7 @@ pub fn small(kind: u64) -> Vec<u8> {
             Card { kind, today: EXAMPLE_DAY, rows: vec![Some(bc), Some(Vec::new())] }.container()
         }
         7 => {
-            let bc = biometric(&mut rng, true, &[1], 1);
+            let bc = biometric(&mut rng, true, &faces::least(), 1);
             Card { kind, today: EXAMPLE_DAY, rows: vec![Some(bc), Some(Vec::new())] }.container()
         }
         8 => certificate_card(kind, trees::least().bytes(), None).container(),
@@ -1854,6 +1866,7 @@ fn fixed_records() -> Vec<Record> {
     }
     out.extend(fixed_certificates());
     out.extend(dates::records());
+    out.extend(faces::records());
     out.extend(faults::records());
     out.extend(lengths::records());
     out

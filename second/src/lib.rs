@@ -7,6 +7,7 @@ pub mod batch;
 pub mod card;
 pub mod dates;
 pub mod der;
+pub mod faces;
 pub mod faults;
 pub mod generate;
 pub mod lengths;
@@ -47,9 +48,10 @@ pub mod number {
     pub const TEXT: u64 = 23;
     pub const DER: u64 = 24;
     pub const TOO_DEEP: u64 = 25;
+    pub const FACE_RECORD: u64 = 26;
 
     /// The last of them.
-    pub const LAST: u64 = TOO_DEEP;
+    pub const LAST: u64 = FACE_RECORD;
 }
 
 /// A container has at most this many bytes.

@@ -3,12 +3,14 @@
 
 use crate::batch::{Answer, Call, Record};
 use crate::card::{Verdict, CONFORMS};
+use crate::faces::{facial, least, with_pixels};
 use crate::generate::{Card, EXAMPLE_DAY, EXAMPLE_DISCOVERY, EXAMPLE_FASCN};
 use crate::samples::{card, ccc, certificate, chuid, discovery, face, fingers, printed, security, wrong_fascn};
-use crate::samples::{COMPRESSED, P256, RSA, UUID};
+use crate::samples::{portrait, COMPRESSED, P256, RSA, UUID};
 use crate::{CONTAINER_MAX, SHEET_ROOM};
 
 mod dates;
+mod faces;
 mod lengths;
 mod tags;
 
@@ -32,6 +34,7 @@ pub fn all() -> Vec<Group> {
         tags::all(),
         lengths::all(),
         dates::all(),
+        faces::all(),
         views(),
         reports(),
     ]
@@ -92,6 +95,17 @@ fn write(kind: u64, sheet: &[u8], room: usize, outcome: Result<&[u8], Verdict>) 
     into_room(given(Call::Write, kind, sheet), room, outcome)
 }
 
+/// A card's container that is checked and its sheet that is written, in rooms that suffice. Where the number is not 0, the element
+/// with this tag is refused, at one place of the container and at the other of the sheet.
+fn checked_and_written(card: &Card, number: u64, tag: u16, [place, in_sheet]: [u64; 2]) -> [Case; 2] {
+    let (container, sheet) = (card.container(), card.sheet());
+    let outcome = |output, place| if number == 0 { Ok(output) } else { Err((number, place, Some(tag))) };
+    [
+        check_into(card.kind, &container, sheet.len(), outcome(&sheet[..], place)),
+        write(card.kind, &sheet, container.len(), outcome(&container[..], in_sheet)),
+    ]
+}
+
 /// A view is told by the offset and the length of its part.
 fn view(kind: u64, container: &[u8], element: u64, outcome: Result<(usize, usize), Verdict>) -> Case {
     let record = Record { element, ..given(Call::View, kind, container) };
@@ -135,6 +149,14 @@ const PRINTED_DATE: &[u8] = b"2030JAN31";
 
 /// The smallest SECURITY.
 const SMALL: [u8; 8] = [0x53, 6, 0xBA, 0, 0xBB, 0, 0xFE, 0];
+
+/// Bytes that are no facial record.
+const RUBBISH: [u8; 300] = [0xFF; 300];
+
+/// A FACE with the portrait.
+fn portrait_face() -> Card {
+    face(100, &facial(&[portrait()]), 40)
+}
 
 /// Case R.
 fn case_r() -> Card {
@@ -206,11 +228,12 @@ fn fascns() -> Vec<Group> {
 fn biometrics() -> Vec<Group> {
     let at_bc = |number, place| if number == 0 { CONFORMS } else { (number, place, Some(0xBC)) };
     let fingers_of = |quality, number| check(6, &fingers(quality, b'0', [0, 0]).container(), at_bc(number, 3));
-    let face_of = |quality, number| check(7, &face(quality, 1, 1).container(), at_bc(number, 2));
+    let face_of = |quality, number| check(7, &face(quality, &least(), 1).container(), at_bc(number, 3));
     let views = |counts| check(6, &fingers(100, b'0', counts).container(), CONFORMS);
-    let value = face(100, 1, 1).rows[0].clone().unwrap_or_default();
+    let value_of = |record: &[u8]| face(100, record, 1).rows[0].clone().unwrap_or_default();
+    let (of_one_byte, of_least) = (value_of(&[0xFF]), value_of(&least()));
     let bc_of =
-        |length: usize, number| check(7, &card(7, &[Some(&value[..length]), Some(&[])]).container(), at_bc(number, 2));
+        |value: &[u8], number, place| check(7, &card(7, &[Some(value), Some(&[])]).container(), at_bc(number, place));
     vec![
         (
             "quality FD, FE, FF, 64, 65 in FINGERS",
@@ -225,7 +248,17 @@ fn biometrics() -> Vec<Group> {
             "the old version number in the minutiae",
             vec![check(6, &fingers(100, 0, [0, 0]).container(), (22, 3, Some(0xBC)))],
         ),
-        ("BC of 87, 88, 89 and 90 bytes, FACE", vec![bc_of(87, 16), bc_of(88, 21), bc_of(89, 21), bc_of(90, 0)]),
+        (
+            "BC of 87 to 90 bytes, FACE, with a record of one byte; of 134 and 135, which is the least",
+            vec![
+                bc_of(&of_one_byte[..87], 16, 2),
+                bc_of(&of_one_byte[..88], 21, 2),
+                bc_of(&of_one_byte[..89], 21, 2),
+                bc_of(&of_one_byte, 26, 2),
+                bc_of(&of_least[..134], 21, 3),
+                bc_of(&of_least, 0, 3),
+            ],
+        ),
     ]
 }
 
@@ -269,15 +302,20 @@ fn with_part(part: &[u8]) -> Vec<u8> {
     [&[0x30], &length[..], &[5, 0], part, &[5, 0]].concat()
 }
 
-/// A check of PIVAUTH with this value of 70, whose tag stands behind an outer length of one, two or three bytes.
-fn check_70(value: &[u8], number: u64) -> Case {
-    let container = certificate(8, value, 0, None).container();
-    let place = match container[1] {
+/// Where the first tag stands, behind an outer length of one, two or three bytes.
+fn first_place(container: &[u8]) -> u64 {
+    match container[1] {
         0x81 => 3,
         0x82 => 4,
         _ => 2,
-    };
-    check(8, &container, if number == 0 { CONFORMS } else { (number, place, Some(0x70)) })
+    }
+}
+
+/// A check of PIVAUTH with this value of 70.
+fn check_70(value: &[u8], number: u64) -> Case {
+    let container = certificate(8, value, 0, None).container();
+    let broken = (number, first_place(&container), Some(0x70));
+    check(8, &container, if number == 0 { CONFORMS } else { broken })
 }
 
 fn certificates() -> Vec<Group> {
@@ -514,7 +552,7 @@ fn conforming() -> Vec<Group> {
                 conforms(printed(b"AGENT", PRINTED_DATE)),
                 conforms(security(&[1, 2], &[3; 200])),
                 conforms(fingers(100, b'0', [3, 5])),
-                conforms(face(100, 300, 40)),
+                conforms(portrait_face()),
                 conforms(certificate(8, RSA, 0, None)),
                 conforms(certificate(9, P256, 0, None)),
                 conforms(certificate(10, P256, 0, Some(&[1]))),
@@ -611,7 +649,7 @@ fn there_and_back() -> Vec<Group> {
         group("PRINTED checked and written", printed(b"AGENT", PRINTED_DATE)),
         group("SECURITY checked and written", security(&[1, 2], &[3; 140])),
         group("FINGERS checked and written", fingers(100, b'0', [1, 2])),
-        group("FACE checked and written", face(100, 3, 4)),
+        group("FACE checked and written", face(100, &least(), 4)),
         group("PIVAUTH checked and written", certificate(8, RSA, 0, None)),
         group("DIGSIG checked and written", certificate(9, P256, 0, Some(&[]))),
         group("KEYMGMT checked and written", certificate(10, &LEVEL_8, 0, Some(&[0x41; 38]))),
@@ -700,7 +738,8 @@ fn broken_into_rooms() -> Group {
             breaks(printed(b"AGENT", b"2030FEB30"), 19, 20, Some(0x04)),
             breaks(card(5, &[Some(&[]), Some(&[]), None]), 15, 6, None),
             breaks(fingers(100, 0, [3, 5]), 22, 3, Some(0xBC)),
-            breaks(face(0xFF, 300, 40), 21, 4, Some(0xBC)),
+            breaks(face(0xFF, &with_pixels(254), 40), 21, 4, Some(0xBC)),
+            breaks(face(100, &RUBBISH, 40), 26, 4, Some(0xBC)),
             breaks(certificate(8, COMPRESSED, 1, None), 24, 4, Some(0x70)),
             breaks(certificate(9, &LEVEL_9, 0, None), 25, 2, Some(0x70)),
             breaks(certificate(10, &LEAST, 1, None), 20, 12, Some(0x71)),
@@ -927,10 +966,10 @@ fn reports() -> Vec<Group> {
         ),
         pair(
             "FACE reported, conforming and broken",
-            face(100, 3, 4),
-            &format!("ELEMENTS 2\nBC 95\nFE 0\n{}", agency),
-            face(0xFF, 300, 40),
-            "21 4 BC",
+            face(100, &least(), 4),
+            &format!("ELEMENTS 2\nBC 138\nFE 0\n{}", agency),
+            face(100, &RUBBISH, 40),
+            "26 4 BC",
         ),
         pair(
             "PIVAUTH reported, conforming and broken",

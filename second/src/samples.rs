@@ -1,6 +1,7 @@
 //! The samples: for each kind a container that conforms on 1 March 2026, and one that breaks a rule in an instructive way. One more
 //! conforms with lengths in longer forms.
 
+use crate::faces::{facial, Image};
 use crate::generate::{Card, Form, Forms, EXAMPLE_DAY, EXAMPLE_FASCN};
 use crate::{report, trees, REPORT_MAX};
 
@@ -79,8 +80,26 @@ pub fn fingers(quality: u8, last_of_version: u8, counts: [u8; 2]) -> Card {
     biometric(6, [0x02, 0x08, 0x80], quality, &data, &[0x30])
 }
 
-pub fn face(quality: u8, data: usize, signature: usize) -> Card {
-    biometric(7, [0x05, 0x02, 0x20], quality, &vec![0xFF; data], &vec![0x30; signature])
+/// A face with these data, which should be a facial record, and so many bytes of signature.
+pub fn face(quality: u8, record: &[u8], signature: usize) -> Card {
+    biometric(7, [0x05, 0x02, 0x20], quality, record, &vec![0x30; signature])
+}
+
+/// A drawn face of 240 by 320 pixels in JPEG 2000, made once with opj_compress.
+pub const PICTURE: &[u8] = include_bytes!("pictures/face.jp2");
+
+/// The picture as an image of a facial record. The feature points are both eyes and the tip of the nose.
+pub fn portrait() -> Image {
+    let point = |code, x, y| [1, code, 0, x, 0, y, 0, 0];
+    Image {
+        free: [0; 14],
+        points: vec![point(0xC1, 146, 144), point(0xC2, 94, 144), point(0x93, 120, 188)],
+        data_type: 1,
+        width: 240,
+        height: 320,
+        pixels: PICTURE.to_vec(),
+        ..Image::plain(0, 0)
+    }
 }
 
 /// A certificate of an RSA key with the extensions of a PIV card, made once with openssl. The holder is invented and signed it
@@ -133,9 +152,9 @@ pub fn all() -> Vec<Sample> {
         sample("fingers", fingers(100, b'0', [3, 5])),
         // the version number as INCITS 378 has it, and 004 has not
         sample("fingers-broken", fingers(100, 0, [3, 5])),
-        sample("face", face(100, 300, 40)),
-        // the quality -1, which fingers may have and a face may not
-        sample("face-broken", face(0xFF, 300, 40)),
+        sample("face", face(100, &facial(&[portrait()]), 40)),
+        // a good header and rubbish after it
+        sample("face-broken", face(100, &[0xFF; 300], 40)),
         sample("pivauth", certificate(8, RSA, 0, None)),
         // a certificate that is compressed, and says so in 71: 70 is judged before, and gzip's first byte is no tag
         sample("pivauth-broken", certificate(8, COMPRESSED, 1, None)),

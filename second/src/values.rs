@@ -1,4 +1,4 @@
-//! The rules on single values: FASC-N, UUID, dates, policy, text, CBEFF header, minutiae, certificates.
+//! The rules on single values: FASC-N, UUID, dates, policy, text, CBEFF header, minutiae, facial records, certificates.
 
 use crate::{der, number};
 
@@ -216,7 +216,7 @@ pub fn is_text(bytes: &[u8]) -> bool {
 }
 
 // ---------------------------------------------------------------------------------------------
-// CBEFF header and minutiae
+// CBEFF header, minutiae and facial records
 
 pub const HEADER_BYTES: usize = 88;
 /// Where the FASC-N stands in the header.
@@ -225,6 +225,17 @@ pub const HEADER_FASCN: core::ops::Range<usize> = 59..84;
 /// 01 says 20 32 30 00; section 9.4.1 of document 004 says 0x20323030 and decides.
 pub const MINUTIAE_VERSION: [u8; 4] = [0x20, 0x32, 0x30, 0x30];
 pub const MINUTIAE_FORMAT: [u8; 4] = [0x46, 0x4D, 0x52, 0x00];
+
+/// Section 9.6.1 of document 004. The layout of a facial record is that of INCITS 385.
+pub const FACIAL_FORMAT: [u8; 4] = [0x46, 0x41, 0x43, 0x00];
+pub const FACIAL_VERSION: [u8; 4] = [0x30, 0x31, 0x30, 0x00];
+/// Format, version, record length and number of images.
+pub const FACIAL_HEADER_BYTES: usize = 14;
+/// What an image has before its feature points: the length of its block, their number, and bytes that are free.
+pub const FACIAL_INFORMATION_BYTES: usize = 20;
+pub const FEATURE_POINT_BYTES: usize = 8;
+/// What it has behind them: type, data type, width, height, colour space, source type, device type and quality. Pixels follow.
+pub const IMAGE_INFORMATION_BYTES: usize = 12;
 
 /// Century, year, month, day, hour, minute, second, and 5A.
 fn is_binary_date(bytes: &[u8]) -> bool {
@@ -249,7 +260,7 @@ fn is_quality(byte: u8, face: bool) -> bool {
     (-2..=100).contains(&quality) && !(face && quality == -1)
 }
 
-/// The rules on the value of BC, which has at least 88 bytes: 0, or 21, 17, 22.
+/// The rules on the value of BC, which has at least 88 bytes: 0, or 21, 17, and then 22 or 26.
 pub fn biometric(value: &[u8], face: bool) -> u64 {
     let (header, body) = value.split_at(HEADER_BYTES);
     let data_length = u64::from(u32::from_be_bytes([header[2], header[3], header[4], header[5]]));
@@ -281,10 +292,14 @@ pub fn biometric(value: &[u8], face: bool) -> u64 {
     if header[84..88] != [0; 4] {
         return number::HEADER;
     }
-    if !face && !is_minutiae(&body[..data_length as usize]) {
-        return number::MINUTIAE;
+    let data = &body[..data_length as usize];
+    let (good, number) =
+        if face { (is_facial(data), number::FACE_RECORD) } else { (is_minutiae(data), number::MINUTIAE) };
+    if good {
+        number::DONE
+    } else {
+        number
     }
-    number::DONE
 }
 
 /// A minutiae record of two views that fills the data part.
@@ -327,6 +342,42 @@ fn after_view(bytes: &[u8]) -> Option<&[u8]> {
 /// Type and x, zero bits and y, angle, quality.
 fn is_minutia(m: &[u8]) -> bool {
     m[0] >> 6 != 3 && m[2] >> 6 == 0 && m[4] <= 179 && m[5] <= 100
+}
+
+/// A facial record of one image or more that fills the data part.
+fn is_facial(record: &[u8]) -> bool {
+    if record.len() < FACIAL_HEADER_BYTES {
+        return false;
+    }
+    let (header, blocks) = record.split_at(FACIAL_HEADER_BYTES);
+    let record_length = u32::from_be_bytes([header[8], header[9], header[10], header[11]]);
+    let images = u16::from_be_bytes([header[12], header[13]]);
+    let header_good = header[..4] == FACIAL_FORMAT
+        && header[4..8] == FACIAL_VERSION
+        && record_length as usize == record.len()
+        && images >= 1;
+    header_good && (0..images).try_fold(blocks, |rest, _| after_image(rest)).map_or(false, <[u8]>::is_empty)
+}
+
+/// What follows the block of a conforming image. Section 9.6.2 of document 004 names four of its fields, and all others are free.
+fn after_image(bytes: &[u8]) -> Option<&[u8]> {
+    if bytes.len() < FACIAL_INFORMATION_BYTES {
+        return None;
+    }
+    let block_length = u32::from_be_bytes([bytes[0], bytes[1], bytes[2], bytes[3]]) as usize;
+    let points = usize::from(u16::from_be_bytes([bytes[4], bytes[5]]));
+    let image_at = FACIAL_INFORMATION_BYTES + FEATURE_POINT_BYTES * points;
+    let pixels_at = image_at + IMAGE_INFORMATION_BYTES;
+    if block_length < pixels_at || block_length > bytes.len() {
+        return None;
+    }
+    let image = &bytes[image_at..pixels_at];
+    let good = image[0] == 1 && matches!(image[1], 0 | 1) && image[6] == 1 && matches!(image[7], 2 | 6);
+    if good {
+        Some(&bytes[block_length..])
+    } else {
+        None
+    }
 }
 
 // ---------------------------------------------------------------------------------------------

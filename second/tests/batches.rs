@@ -12,9 +12,9 @@ fn batch(seed: u64, count: usize) -> Vec<Record> {
 
 #[test]
 fn batches_are_fixed() {
-    assert!(batch(7, 50_000) == batch(7, 50_000));
-    assert!(batch(7, 50_000) != batch(8, 50_000));
-    assert!(batch(7, 50_000).starts_with(&batch(7, 45_000)));
+    assert!(batch(7, 60_000) == batch(7, 60_000));
+    assert!(batch(7, 60_000) != batch(8, 60_000));
+    assert!(batch(7, 60_000).starts_with(&batch(7, 55_000)));
 }
 
 #[test]
@@ -32,7 +32,7 @@ fn records_keep_to_the_limits() {
 #[test]
 fn every_number_occurs() {
     let mut tally = Tally::default();
-    for record in batch(4, 45_000) {
+    for record in batch(4, 55_000) {
         tally.count(record.call, &record.answer());
     }
     assert_eq!(tally.never(), []);

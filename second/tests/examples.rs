@@ -167,12 +167,12 @@ fn other_reports() {
         "CARD 4\nkind SECURITY\nbytes 10\ntoday 00010101\nverdict 0 0 --\nELEMENTS 3\nBA 1\nBB 1\nFE 0\nOPEN 0\n"
     );
     let mut face = small(7);
-    let at = face.len() - 2 - 90;
+    let at = face.len() - 2 - 135;
     assert_eq!(face[at..at + 2], [0x03, 0x0D]);
     face[at + 59..at + 84].copy_from_slice(&EXAMPLE_FASCN);
     assert_eq!(
         text(7, &face),
-        "CARD 4\nkind FACE\nbytes 96\ntoday 00010101\nverdict 0 0 --\nELEMENTS 2\nBC 90\nFE 0\nOPEN 2\nagency 1234\nsystem 0001\n"
+        "CARD 4\nkind FACE\nbytes 143\ntoday 00010101\nverdict 0 0 --\nELEMENTS 2\nBC 135\nFE 0\nOPEN 2\nagency 1234\nsystem 0001\n"
     );
 }
 
@@ -192,7 +192,7 @@ fn desk_inputs() {
     // no byte, a lone one, and a pair that is no kind
     for head in ["", "0", "2", "8", "00", "12", "20", "99", "2 ", " 2", "+2", "x2", "2x"] {
         assert_eq!(desk(head.as_bytes()), b"refused 1\n", "{}", head);
-        assert_eq!(desk(&[head.as_bytes(), b"\020260301"].concat()), b"refused 1\n", "{}", head);
+        assert_eq!(desk(&[head.as_bytes(), b"\x0020260301"].concat()), b"refused 1\n", "{}", head);
     }
     // with one digit for the kind the date is cut short
     assert_eq!(desk(b"020260301"), b"refused 2\n");
@@ -223,8 +223,8 @@ fn desk_inputs() {
 
 #[test]
 fn quality_bytes() {
-    for (kind, header) in [(6, 6), (7, 4)] {
-        let good = small(kind);
+    for kind in [6, 7] {
+        let (good, header) = (small(kind), 6);
         assert_eq!(good[header..header + 2], [0x03, 0x0D]);
         assert_eq!(verdict(kind, EXAMPLE_DAY, &good), CONFORMS);
         for quality in 0..=255u8 {
@@ -235,8 +235,7 @@ fn quality_bytes() {
                 0xFF => kind == 6,
                 _ => false,
             };
-            let place = if kind == 6 { 3 } else { 2 };
-            let expected = if kept { CONFORMS } else { (21, place, Some(0xBC)) };
+            let expected = if kept { CONFORMS } else { (21, 3, Some(0xBC)) };
             assert_eq!(verdict(kind, EXAMPLE_DAY, &container), expected);
         }
     }

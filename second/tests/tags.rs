@@ -3,7 +3,7 @@
 use second::batch::{Answer, Call, Record};
 use second::card::{self, all_kinds, kind_of, Row, Rule};
 use second::generate::Inputs;
-use second::{faults, tag_number, NO_TAG};
+use second::{faults, number, tag_number, NO_TAG};
 use std::collections::BTreeSet;
 
 /// What was answered: the call, the kind, the number and the tag.
@@ -32,7 +32,7 @@ fn numbers_of(rule: Rule) -> &'static [u64] {
         Rule::Exactly(_) | Rule::Policy => &[20],
         Rule::Text => &[23],
         Rule::Fingers => &[21, 17, 22],
-        Rule::Face => &[21, 17],
+        Rule::Face => &[21, 17, 26],
         Rule::Certificate => &[24, 25],
     }
 }
@@ -46,7 +46,7 @@ fn every_row_is_named() {
         for (i, row) in rows.iter().enumerate() {
             let any_length = (0..2_000).all(|length| row.permits(length));
             let passes_over = rows[..i].iter().any(|before| !before.optional);
-            for number in 0..=25 {
+            for number in 0..=number::LAST {
                 let of_value = numbers_of(row.rule).contains(&number) || number == 16 && !any_length;
                 let of_element = of_value || matches!(number, 11 | 12 | 14) || number == 15 && passes_over;
                 let of_section = of_value || number == 15 && !row.optional;
@@ -180,8 +180,8 @@ fn tags_stand_at_their_places() {
         let outer = matches!(answer.number, 10..=12) && answer.place == 0;
         let at_the_end = answer.number == 15 && answer.place == record.bytes.len() as u64;
         let (expected, none) = match (record.call, answer.number) {
-            (Call::Check | Call::View, 10..=25) if !outer => (tag_at(&record, answer.place), at_the_end),
-            (Call::Write, 10..=25) => (section_at(&record, answer.place), false),
+            (Call::Check | Call::View, 10..=number::LAST) if !outer => (tag_at(&record, answer.place), at_the_end),
+            (Call::Write, 10..=number::LAST) => (section_at(&record, answer.place), false),
             _ => (None, true),
         };
         assert_eq!(answer.tag, expected, "{:?}", record);

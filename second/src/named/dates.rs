@@ -27,15 +27,7 @@ pub fn all() -> Vec<Group> {
 /// Each of these as the date of a PRINTED that is checked, and of a sheet that is written, in rooms that suffice. 04 stands at 20
 /// of the container, and its count at 18 of the sheet.
 fn each(number: u64, dates: impl IntoIterator<Item = impl AsRef<[u8]>>) -> Vec<Case> {
-    let both = |date: &[u8]| {
-        let card = printed(b"AGENT", date);
-        let (container, sheet) = (card.container(), card.sheet());
-        let outcome = |output, place| if number == 0 { Ok(output) } else { Err((number, place, Some(0x04))) };
-        [
-            check_into(4, &container, sheet.len(), outcome(&sheet[..], 20)),
-            write(4, &sheet, container.len(), outcome(&container[..], 18)),
-        ]
-    };
+    let both = |date: &[u8]| checked_and_written(&printed(b"AGENT", date), number, 0x04, [20, 18]);
     dates.into_iter().flat_map(|date| both(date.as_ref())).collect()
 }
 

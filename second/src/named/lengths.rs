@@ -259,6 +259,11 @@ fn places_behind() -> Group {
     )
 }
 
+/// A FACE whose record has 300 bytes.
+fn long_face() -> Card {
+    face(100, &with_pixels(254), 40)
+}
+
 fn biometrics_inside() -> Group {
     let broken = |card: Card, number| check(card.kind, &longest(&card), (number, 6, Some(0xBC)));
     let with = |mut card: Card, at: usize, byte: u8| {
@@ -266,14 +271,16 @@ fn biometrics_inside() -> Group {
         card
     };
     (
-        "BC in the longest forms: good ones, and data and signature lengths, FASC-N and minutiae that are not",
+        "BC in the longest forms: good ones, and data and signature lengths, FASC-N, minutiae and a record that are not",
         vec![
             check(6, &longest(&fingers(100, b'0', [3, 5])), CONFORMS),
-            check(7, &longest(&face(100, 300, 40)), CONFORMS),
+            check(7, &longest(&long_face()), CONFORMS),
             broken(with(fingers(100, b'0', [3, 5]), 5, 87), 21),
-            broken(with(face(100, 300, 40), 7, 41), 21),
-            broken(with(face(100, 300, 40), 83, 0xEA), 17),
+            broken(with(long_face(), 7, 41), 21),
+            broken(with(long_face(), 83, 0xEA), 17),
             broken(fingers(100, 0, [3, 5]), 22),
+            broken(with(long_face(), 88, 0x47), 26),
+            broken(face(100, &RUBBISH, 40), 26),
         ],
     )
 }
@@ -352,7 +359,7 @@ fn longer_reports() -> Group {
                 189,
                 &format!("0 0 --\nELEMENTS 2\nBC 175\nFE 0\nOPEN 2\n{}", agency),
             ),
-            page(&face(100, 300, 40), "FACE", 442, &format!("0 0 --\nELEMENTS 2\nBC 428\nFE 0\nOPEN 2\n{}", agency)),
+            page(&long_face(), "FACE", 442, &format!("0 0 --\nELEMENTS 2\nBC 428\nFE 0\nOPEN 2\n{}", agency)),
             page(&certificate(8, RSA, 0, None), "PIVAUTH", 1_108, "0 0 --\nELEMENTS 3\n70 1091\n71 1\nFE 0\nOPEN 0\n"),
             page(&certificate(8, COMPRESSED, 1, None), "PIVAUTH", 977, "24 6 70\nELEMENTS 0\nOPEN 0\n"),
         ],
@@ -411,7 +418,7 @@ fn there_and_fewest() -> Vec<Group> {
         group("PRINTED in the longest forms, written in the fewest bytes", printed),
         group("SECURITY in the longest forms, written in the fewest bytes", security(&[1, 2], &[3; 256])),
         group("FINGERS in the longest forms, written in the fewest bytes", fingers(100, b'0', [3, 5])),
-        group("FACE in the longest forms, written in the fewest bytes", face(100, 300, 40)),
+        group("FACE in the longest forms, written in the fewest bytes", long_face()),
         group("PIVAUTH in the longest forms, written in the fewest bytes", certificate(8, RSA, 0, None)),
         group("DIGSIG in the longest forms, written in the fewest bytes", certificate(9, P256, 0, Some(&[]))),
         group("KEYMGMT in the longest forms, written in the fewest bytes", certificate(10, P256, 0, Some(&[0x41; 38]))),

@@ -206,7 +206,8 @@ fn missing_sections() -> Group {
         write(card.kind, &card.sheet(), 700, Err((15, place, Some(tag))))
     };
     let (ccc, chuid, discovery, printed) = (ccc(0x10), case_r(), discovery([0x40, 0]), printed(b"AGENT", PRINTED_DATE));
-    let (security, face, cardauth) = (security(&[1, 2], &[3]), face(100, 1, 1), certificate(11, &LEAST, 0, None));
+    let (security, face, cardauth) =
+        (security(&[1, 2], &[3]), face(100, &least(), 1), certificate(11, &LEAST, 0, None));
     (
         "15 of a sheet names the row that is missing: the first, one in the middle and the last of a kind",
         vec![
@@ -223,7 +224,7 @@ fn missing_sections() -> Group {
             without(&security, 0, 0, 0xBA),
             without(&security, 2, 7, 0xFE),
             without(&face, 0, 0, 0xBC),
-            without(&face, 1, 92, 0xFE),
+            without(&face, 1, 137, 0xFE),
             without(&cardauth, 1, 10, 0x71),
             without(&cardauth, 3, 15, 0xFE),
         ],
