@@ -1,53 +1,17 @@
 -- What the tested form answers on each way out of the code. Assumes nothing.
 use Prim.Native.Nat.{ℕ, _<_, _≤_}
-use mathlib.Core.Path.{_≡_, sym}
+use mathlib.Core.Path.{_≡_}
 use mathlib.Core.Bool.{true, false}
 use mathlib.Core.List.{List}
-use lib.Dec.{leb}
 use lib.ListN.{length}
 use borrow.Author.Tests.{le-leb, lt-leb, eq-eqb, ne-eqb}
-use Rattle.laws.specs.Digits.{value}
 use Rattle.laws.specs.Layout.{field, part}
-use Rattle.laws.proofs.Cases.{not-so}
 use Rattle.verdicts.specs.declared.Ruling.the-variants.{Kept, Breaks}
 use Rattle.verdicts.specs.declared.Fault.the-variants.{BadHeader, BadFascn}
 use Rattle.fascn.specs.Reading.{isFascn}
-use Rattle.dates.specs.Moment.{isMoment, momentOf}
-use Rattle.dates.specs.declared.Moment.the-variants.{At, Never}
-use Rattle.dates.proofs.Moments.{moment-exact, moment-at, moment-never}
 use Rattle.cbeff.specs.Header.{data-part}
 use Rattle.cbeff.specs.Judged.{sizesHold, datesHold, formHolds, judged}
 use Rattle.cbeff.specs.declared.Biometric.{Biometric}
-
--- ---- the dates
-
-never-is : (p : List ℕ) → Never ≡ momentOf p → isMoment p ≡ false
-never-is p e = not-so (isMoment p) (λ t. moment-never p .0 (sym e) (moment-exact p .0 t))
-
-at-is : (p : List ℕ) {n : ℕ} → At n ≡ momentOf p → (isMoment p ≡ true) × (n ≡ value 256 p)
-at-is p {n} e = let t = moment-at p n .0 (sym e) in (moment-exact p .1 (t .0), t .1)
-
-module _ (v : List ℕ) where
-  pub no-creation : Never ≡ momentOf (part v 12 8) → false ≡ datesHold v
-  unfolding datesHold
-  no-creation e = rw (never-is (part v 12 8) e)
-
-  module _ {created : ℕ} (c : At created ≡ momentOf (part v 12 8)) where
-    pub no-from : Never ≡ momentOf (part v 20 8) → false ≡ datesHold v
-    unfolding datesHold
-    no-from e = rw (at-is (part v 12 8) c .0, never-is (part v 20 8) e)
-
-    module _ {from : ℕ} (f : At from ≡ momentOf (part v 20 8)) where
-      pub no-to : Never ≡ momentOf (part v 28 8) → false ≡ datesHold v
-      unfolding datesHold
-      no-to e = rw (at-is (part v 12 8) c .0, at-is (part v 20 8) f .0, never-is (part v 28 8) e)
-
-      pub all-dates : {to : ℕ} → At to ≡ momentOf (part v 28 8) → leb from to ≡ datesHold v
-      unfolding datesHold
-      all-dates t =
-          let (p, m) = at-is (part v 20 8) f in
-          let (q, n) = at-is (part v 28 8) t in
-          rw (at-is (part v 12 8) c .0, p, q, m, n)
 
 -- ---- the value
 

@@ -6,8 +6,7 @@ ghost use Rattle.laws.specs.Format.{judge};
 ghost use Rattle.verdicts.specs.Verdicts.{ruled};
 ghost use Rattle.cbeff.specs.Header.{fingers, face, header, data-part};
 ghost use Rattle.cbeff.specs.Judged.{sizesHold, datesHold, formHolds};
-use dates::Moment;
-use dates::moment_of;
+use dates::is_moment;
 use facial::is_facial;
 use fascn::is_fascn;
 use minutiae::is_minutiae;
@@ -82,16 +81,9 @@ fn dates_hold(v: &[u8]) -> bool
     requires { ⌜ 88 ≤ length (now v) ⌝ }
     ensures { λ r. ⌜ r ≡ datesHold (now (v .entry)) ⌝ }
 {
-    let Moment::At(_) = moment_of(&v[12..20]) else {
-        return false;
-    };
-    let Moment::At(from) = moment_of(&v[20..28]) else {
-        return false;
-    };
-    let Moment::At(to) = moment_of(&v[28..36]) else {
-        return false;
-    };
-    from <= to
+    let from = number(v, 20, 8);
+    let to = number(v, 28, 8);
+    is_moment(&v[12..20]) & is_moment(&v[20..28]) & is_moment(&v[28..36]) & (from <= to)
 }
 
 // Type, data type, quality, creator.

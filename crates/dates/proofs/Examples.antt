@@ -3,10 +3,9 @@ use mathlib.Core.Path.{_≡_, refl}
 use mathlib.Core.Bool.{true, false}
 use mathlib.Core.List.{[], _∷_}
 use Rattle.dates.specs.declared.Date.the-variants.{Is, Not}
-use Rattle.dates.specs.declared.Moment.the-variants.{At, Never}
 use Rattle.dates.specs.Calendar.{daysIn, exists}
 use Rattle.dates.specs.Date.{isDate, dateOf, inWindow}
-use Rattle.dates.specs.Moment.{isMoment, momentOf}
+use Rattle.dates.specs.Moment.{isMoment}
 
 -- P9 20000229 yes; P10 21000229 no
 pub p9 : isDate 20000229 ≡ true
@@ -75,14 +74,14 @@ unfolding dateOf isDate exists daysIn
 seven = refl
 
 -- the last second of the 29th of February 2000; the hour 24; another last byte
-pub second : momentOf (20 ∷ 0 ∷ 2 ∷ 29 ∷ 23 ∷ 59 ∷ 59 ∷ 0x5A ∷ []) ≡ At 0x1400021D173B3B5A
-unfolding momentOf isMoment exists daysIn
+pub second : isMoment (20 ∷ 0 ∷ 2 ∷ 29 ∷ 23 ∷ 59 ∷ 59 ∷ 0x5A ∷ []) ≡ true
+unfolding isMoment exists daysIn
 second = refl
 
-pub hour-24 : momentOf (20 ∷ 0 ∷ 2 ∷ 29 ∷ 24 ∷ 0 ∷ 0 ∷ 0x5A ∷ []) ≡ Never
-unfolding momentOf isMoment exists daysIn
+pub hour-24 : isMoment (20 ∷ 0 ∷ 2 ∷ 29 ∷ 24 ∷ 0 ∷ 0 ∷ 0x5A ∷ []) ≡ false
+unfolding isMoment exists daysIn
 hour-24 = refl
 
-pub no-5a : momentOf (20 ∷ 0 ∷ 2 ∷ 29 ∷ 23 ∷ 59 ∷ 59 ∷ 0x5B ∷ []) ≡ Never
-unfolding momentOf isMoment exists daysIn
+pub no-5a : isMoment (20 ∷ 0 ∷ 2 ∷ 29 ∷ 23 ∷ 59 ∷ 59 ∷ 0x5B ∷ []) ≡ false
+unfolding isMoment exists daysIn
 no-5a = refl

@@ -1,7 +1,7 @@
 -- A binary date: the test says exactly what the definition says, and the numbers of two are in their order. Assumes nothing.
 use Prim.Native.Nat.{ℕ, _+_, _*_, _^_, _≤_, _<_}
-use mathlib.Core.Path.{_≡_, refl, ap, _∙_}
-use mathlib.Core.Bool.{Bool, true, false, cond, not, _&&_, and-assoc}
+use mathlib.Core.Path.{_≡_, _∙_}
+use mathlib.Core.Bool.{Bool, true, false, _&&_}
 use mathlib.Core.Logic.{_↔_, _⊎_, inl, inr, ⊎-elim}
 use mathlib.Core.List.{List, [], _∷_}
 use native.Mathlib.Nat.{suc-mul, mul-le-mul-right, zero-mul, zero-add}
@@ -9,14 +9,13 @@ use native.Mathlib.Omega.{arith}
 use native.Mathlib.Decide.{decLt}
 use lib.Dec.{leb, eqb}
 use lib.ListN.{length, getD}
-use borrow.Author.Tests.{le-leb, leb-true, eq-eqb, eqb-true, ne-eqb, not-true, not-false}
+use borrow.Author.Tests.{le-leb, leb-true, eq-eqb, eqb-true, ne-eqb}
 use Rattle.laws.specs.Digits.{value}
 use Rattle.laws.specs.Bytes.{Bytes}
-use Rattle.laws.proofs.Cases.{all-true, not-so}
+use Rattle.laws.proofs.Cases.{all-true}
 use Rattle.laws.proofs.Bases.{read-split, value-lt}
-use Rattle.dates.specs.declared.Moment.the-variants.{At, Never}
 use Rattle.dates.specs.Calendar.{exists}
-use Rattle.dates.specs.Moment.{Fields, Happens, IsMoment, NotAfter, isMoment, momentOf}
+use Rattle.dates.specs.Moment.{Fields, Happens, IsMoment, NotAfter, isMoment}
 use Rattle.laws.proofs.Layouts.{by-entries}
 use Rattle.dates.proofs.Calendars.{exists-exact}
 
@@ -59,35 +58,6 @@ moment-exact s = (sound, complete)
           le-leb _ _ (h .minute-most),
           le-leb _ _ (h .second-most),
         )
-
-told : (b : Bool) (m n : ℕ) → cond b (At m) Never ≡ At n → (b ≡ true) × (n ≡ m)
-told true m n e = (refl, cc)
-told false m n e = let z : _≡_ {A = ℕ} 0 1 = cc in absurd (omega arith)
-
--- they are read as the moment n exactly where they are a binary date and make the number n
-pub moment-at : (s : List ℕ) (n : ℕ) → (momentOf s ≡ At n) ↔ (IsMoment s × (n ≡ value 256 s))
-unfolding momentOf
-moment-at s n = (sound, complete)
-  where
-    sound : momentOf s ≡ At n → IsMoment s × (n ≡ value 256 s)
-    sound e = let t = told (isMoment s) (value 256 s) n e in (moment-exact s .0 (t .0), t .1)
-
-    complete : IsMoment s × (n ≡ value 256 s) → momentOf s ≡ At n
-    complete (m, e) = rw (moment-exact s .1 m, e)
-
--- they are no moment exactly where they are no binary date
-pub moment-never : (s : List ℕ) → (momentOf s ≡ Never) ↔ (IsMoment s → ⊥)
-unfolding momentOf
-moment-never s = (sound, complete)
-  where
-    sound : momentOf s ≡ Never → IsMoment s → ⊥
-    sound e m =
-        let f : momentOf s ≡ At (value 256 s) = moment-at s (value 256 s) .1 (m, refl) in
-        let z : _≡_ {A = ℕ} 0 1 = cc in
-        omega arith
-
-    complete : (IsMoment s → ⊥) → momentOf s ≡ Never
-    complete h = rw (not-so (isMoment s) (λ e. h (moment-exact s .0 e)))
 
 -- ---- "from not after to"
 
@@ -146,55 +116,15 @@ order-exact (x ∷ s) (y ∷ t) p q l =
     let m : length s ≡ length t = omega arith in
     order-next x y s t (p .1) (q .1) m (order-exact s t (p .1) (q .1) m)
 
--- ---- the ways out of `moment_of`
+-- ---- the ways out of `is_moment`
 
-pub moment-long : (s : List ℕ) → (length s ≡ 8 → ⊥) → Never ≡ momentOf s
-unfolding momentOf isMoment
+pub moment-long : (s : List ℕ) → (length s ≡ 8 → ⊥) → false ≡ isMoment s
+unfolding isMoment
 moment-long s h = rw (ne-eqb _ _ h)
 
--- the tests of the date and those of the time, as the code groups them
-grouped : (l a b x h n e z : Bool) → (l && a && b && x && h && n && e && z) ≡ (l && ((a && b && x) && (h && n && e && z)))
-grouped l a b x h n e z = simp and-assoc
-
--- of eight bytes these numbers were read off those of the date, and these off those of the time
-abbrev pub DateAt : List ℕ → ℕ → ℕ → ℕ → ℕ → Type 0
-DateAt s c y m d = (length s ≡ 8) × (c ≡ getD s 0 0) × (y ≡ getD s 1 0) × (m ≡ getD s 2 0) × (d ≡ getD s 3 0)
-
-abbrev pub TimeAt : List ℕ → ℕ → ℕ → ℕ → Type 0
-TimeAt s h n e = (h ≡ getD s 4 0) × (n ≡ getD s 5 0) × (e ≡ getD s 6 0)
-
-abbrev pub dayTests : ℕ → ℕ → Bool → Bool
-dayTests c y x = leb c 99 && leb y 99 && x
-
-abbrev pub timeTests : ℕ → ℕ → ℕ → ℕ → Bool
-timeTests h n e z = leb h 23 && leb n 59 && leb e 59 && eqb z 0x5A
-
-module _ (s : List ℕ) (c y m d : ℕ) (date : DateAt s c y m d) (x : Bool) (is : x ≡ exists (c * 100 + y) m d) where
-  day-is : (b : Bool) → dayTests c y x ≡ b → dayTests (getD s 0 0) (getD s 1 0) (exists (getD s 0 0 * 100 + getD s 1 0) (getD s 2 0) (getD s 3 0)) ≡ b
-  day-is b e = let (l, p, q, r, t) = date in rw (is, p, q, r, t) at e
-
-  pub moment-no-day : not (dayTests c y x) ≡ true → Never ≡ momentOf s
-  unfolding momentOf isMoment
-  moment-no-day e = rw (grouped, eq-eqb _ _ (date .0), day-is false (not-true (dayTests c y x) e))
-
-  module _ (h n e : ℕ) (time : TimeAt s h n e) (day : not (dayTests c y x) ≡ false) where
-    time-is : (b : Bool) → timeTests h n e (getD s 7 0) ≡ b → timeTests (getD s 4 0) (getD s 5 0) (getD s 6 0) (getD s 7 0) ≡ b
-    time-is b f = let (p, q, r) = time in rw (p, q, r) at f
-
-    pub moment-no-time : not (timeTests h n e (getD s 7 0)) ≡ true → Never ≡ momentOf s
-    unfolding momentOf isMoment
-    moment-no-time f =
-        rw (grouped, eq-eqb _ _ (date .0), day-is true (not-false (dayTests c y x) day), time-is false (not-true (timeTests h n e (getD s 7 0)) f))
-
-    number-is : timeTests h n e (getD s 7 0) ≡ true
-        → value 256 s ≡ (((c * 256 + y) * 256 + m) * 256 + d) * 0x100000000 + (((h * 256 + n) * 256 + e) * 256 + 0x5A)
-    number-is f =
-        let last : getD s 7 0 ≡ 0x5A = eqb-true _ _ (all-true (leb h 23 ∷ leb n 59 ∷ leb e 59 ∷ eqb (getD s 7 0) 0x5A ∷ []) f 3) in
-        ap (value 256) (by-entries 8 s (date .0)) ∙ omega arith
-
-    pub moment-found : not (timeTests h n e (getD s 7 0)) ≡ false
-        → At ((((c * 256 + y) * 256 + m) * 256 + d) * 0x100000000 + (((h * 256 + n) * 256 + e) * 256 + 0x5A)) ≡ momentOf s
-    unfolding momentOf isMoment
-    moment-found f =
-        let g : timeTests h n e (getD s 7 0) ≡ true = not-false _ f in
-        rw (grouped, eq-eqb _ _ (date .0), day-is true (not-false (dayTests c y x) day), time-is true g, number-is g)
+-- of eight bytes, these numbers being read off those of the date: the tests in a row, as the code has them
+pub moment-tested : (s : List ℕ) → length s ≡ 8 → (c y m d : ℕ) → (c ≡ getD s 0 0) × (y ≡ getD s 1 0) × (m ≡ getD s 2 0) × (d ≡ getD s 3 0)
+    → (x : Bool) → x ≡ exists (c * 100 + y) m d
+    → (leb c 99 && leb y 99 && x && leb (getD s 4 0) 23 && leb (getD s 5 0) 59 && leb (getD s 6 0) 59 && eqb (getD s 7 0) 0x5A) ≡ isMoment s
+unfolding isMoment
+moment-tested s l c y m d (p, q, r, t) x e = rw (eq-eqb _ _ l, e, p, q, r, t)

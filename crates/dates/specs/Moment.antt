@@ -1,15 +1,12 @@
 -- 01, "CBEFF header": "A binary date is century, year (each 0 to 99), month, day (a date as above), hour to 23, minute and second to 59 as bytes, then 5A."
 use Prim.Native.Nat.{ℕ, _+_, _*_, _≤_, _<_}
 use mathlib.Core.Path.{_≡_}
-use mathlib.Core.Bool.{Bool, cond, _&&_}
+use mathlib.Core.Bool.{Bool, _&&_}
 use mathlib.Core.Logic.{_⊎_}
 use mathlib.Core.List.{List, [], _∷_}
 use lib.Dec.{leb, eqb}
 use lib.ListN.{length, getD}
-use Rattle.laws.specs.Digits.{value}
 use Rattle.dates.specs.Calendar.{Exists, exists}
-use Rattle.dates.specs.declared.Moment.{Moment}
-use Rattle.dates.specs.declared.Moment.the-variants.{At, Never}
 
 -- the seven numbers
 pub record Fields : Type 0 where
@@ -43,11 +40,8 @@ NotAfter [] ys = Unit {0}
 NotAfter (x ∷ xs) [] = ⊥
 NotAfter (x ∷ xs) (y ∷ ys) = (x < y) ⊎ ((x ≡ y) × NotAfter xs ys)
 
--- the same as a test; a moment that is read is handed on as the number that its bytes make, by which moments are in order
+-- the same as a test
 unfoldable pub isMoment : List ℕ → Bool
 isMoment s =
     eqb (length s) 8 && leb (getD s 0 0) 99 && leb (getD s 1 0) 99 && exists (getD s 0 0 * 100 + getD s 1 0) (getD s 2 0) (getD s 3 0)
     && leb (getD s 4 0) 23 && leb (getD s 5 0) 59 && leb (getD s 6 0) 59 && eqb (getD s 7 0) 0x5A
-
-unfoldable pub momentOf : List ℕ → Moment
-momentOf s = cond (isMoment s) (At (value 256 s)) Never

@@ -4,7 +4,7 @@ ghost use mathlib.Core.Path.{_≡_};
 ghost use Prim.Native.Nat.{_<_, _≤_};
 ghost use Rattle.dates.specs.Calendar.{leap, daysIn, exists};
 ghost use Rattle.dates.specs.Date.{isDate, isDigit, dateOf, inWindow};
-ghost use Rattle.dates.specs.Moment.{momentOf};
+ghost use Rattle.dates.specs.Moment.{isMoment};
 ghost use Rattle.dates.specs.Pairs.{twoDigits};
 ghost use Rattle.dates.specs.Printed.{monthNumber, isPrintedDate};
 
@@ -12,12 +12,6 @@ ghost use Rattle.dates.specs.Printed.{monthNumber, isPrintedDate};
 pub enum Date {
     Is(u64),
     Not,
-}
-
-// A binary date: the number that its eight bytes make, by which moments are in order.
-pub enum Moment {
-    At(u64),
-    Never,
 }
 
 // The months that the calendar's rule names.
@@ -143,26 +137,23 @@ pub fn in_window(today: u64, expiry: u64) -> bool
 }
 
 // "century, year (each 0 to 99), month, day (a date as above), hour to 23, minute and second to 59 as bytes, then 5A"
-pub fn moment_of(s: &[u8]) -> Moment
-    ensures { λ r. ⌜ r ≡ momentOf (now (s .entry)) ⌝ }
+pub fn is_moment(s: &[u8]) -> bool
+    ensures { λ r. ⌜ r ≡ isMoment (now (s .entry)) ⌝ }
 {
     if s.len() != 8 {
-        return Moment::Never;
+        return false;
     }
     let century = numbers::wide(s[0]);
     let year = numbers::wide(s[1]);
-    let month = numbers::wide(s[2]);
-    let day = numbers::wide(s[3]);
-    if !((century <= 99) & (year <= 99) & exists(century * 100 + year, month, day)) {
-        return Moment::Never;
-    }
-    let hour = numbers::wide(s[4]);
-    let minute = numbers::wide(s[5]);
-    let second = numbers::wide(s[6]);
-    if !((hour <= 23) & (minute <= 59) & (second <= 59) & (s[7] == 0x5A)) {
-        return Moment::Never;
-    }
-    let date = ((century * 256 + year) * 256 + month) * 256 + day;
-    let time = ((hour * 256 + minute) * 256 + second) * 256 + 0x5A;
-    Moment::At(date * 0x100000000 + time)
+    (century <= 99)
+        & (year <= 99)
+        & exists(
+            century * 100 + year,
+            numbers::wide(s[2]),
+            numbers::wide(s[3]),
+        )
+        & (s[4] <= 23)
+        & (s[5] <= 59)
+        & (s[6] <= 59)
+        & (s[7] == 0x5A)
 }

@@ -83,22 +83,22 @@ given k at d e =
 blocks : Extends block extent
 blocks = record { taken = taken; given = given }
 
-record-judged : (d : List ℕ) → skim (facial (length d)) 0 d ≡ cond (recordHead d) (skim (times (field d 12 2) block (end tt)) 14 d) (breaks tt)
+record-judged : (d : List ℕ) → skim (facial (length d)) 0 d ≡ cond (recordHead (field d 12 2) d) (skim (times (field d 12 2) block (end tt)) 14 d) (breaks tt)
 unfolding recordHead
 record-judged d = simp cond-and
 
 true-kept : (d : List ℕ) → isFacial d ≡ true → skim (facial (length d)) 0 d ≡ kept
 unfolding isFacial
 true-kept d e =
-    let a = and-true (leb 14 (length d) && recordHead d) (fills extent (field d 12 2) 14 d) e in
-    let h = and-true (leb 14 (length d)) (recordHead d) (a .0) in
+    let a = and-true (leb 14 (length d) && recordHead (field d 12 2) d) (fills extent (field d 12 2) 14 d) e in
+    let h = and-true (leb 14 (length d)) (recordHead (field d 12 2) d) (a .0) in
     rw (record-judged d, h .1) (fills-exact block extent blocks (field d 12 2) 14 d .0 (a .1))
 
 kept-true : (d : List ℕ) → skim (facial (length d)) 0 d ≡ kept → isFacial d ≡ true
 unfolding isFacial
 kept-true d e =
     let f = times (field d 12 2) block (end tt) in
-    let a = kept-if (recordHead d) (skim f 14 d) tt (sym (record-judged d) ∙ e) in
+    let a = kept-if (recordHead (field d 12 2) d) (skim f 14 d) tt (sym (record-judged d) ∙ e) in
     rw (le-leb _ _ (inside f 14 d (a .1)), a .0) (fills-exact block extent blocks (field d 12 2) 14 d .1 (a .1))
 
 -- the test says that these bytes are a facial record exactly when they are one

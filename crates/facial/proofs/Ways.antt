@@ -42,10 +42,11 @@ module _ (d : List ℕ) where
   no-header h = rw (lt-leb 14 (length d) h)
 
   module _ (l : 14 ≤ length d) where
-    pub bad-header : false ≡ recordHead d → false ≡ isFacial d
-    unfolding isFacial
-    bad-header h = rw (le-leb 14 (length d) l, ← h)
+    module _ (n : ℕ) (e : n ≡ field d 12 2) where
+      pub bad-header : false ≡ recordHead n d → false ≡ isFacial d
+      unfolding isFacial
+      bad-header h = rw (le-leb 14 (length d) l, ← e, ← h)
 
-    pub by-images : true ≡ recordHead d → (n : ℕ) → n ≡ field d 12 2 → (b : Bool) → b ≡ fills extent n 14 d → b ≡ isFacial d
-    unfolding isFacial
-    by-images h n e b f = rw (le-leb 14 (length d) l, ← h, ← e, f)
+      pub by-images : true ≡ recordHead n d → (b : Bool) → b ≡ fills extent n 14 d → b ≡ isFacial d
+      unfolding isFacial
+      by-images h b f = rw (le-leb 14 (length d) l, ← e, ← h, f)

@@ -28,13 +28,13 @@ sized size p s = cond (all (blockTests size p s)) (Takes size) None
 unfoldable pub extent : List ℕ → Extent
 extent s = cond (leb 32 (length s)) (sized (field s 0 4) (field s 4 2) s) None
 
--- the record
-abbrev pub recordTests : List ℕ → List Bool
-recordTests d = eqb (field d 0 4) 0x46414300 ∷ eqb (field d 4 4) 0x30313000 ∷ eqb (field d 8 4) (length d) ∷ leb 1 (field d 12 2) ∷ []
+-- the record, with so many images
+abbrev pub recordTests : ℕ → List ℕ → List Bool
+recordTests count d = eqb (field d 0 4) 0x46414300 ∷ eqb (field d 4 4) 0x30313000 ∷ eqb (field d 8 4) (length d) ∷ leb 1 count ∷ []
 
-unfoldable pub recordHead : List ℕ → Bool
-recordHead d = all (recordTests d)
+unfoldable pub recordHead : ℕ → List ℕ → Bool
+recordHead count d = all (recordTests count d)
 
 -- these bytes are a facial record
 unfoldable pub isFacial : List ℕ → Bool
-isFacial d = leb 14 (length d) && recordHead d && fills extent (field d 12 2) 14 d
+isFacial d = leb 14 (length d) && recordHead (field d 12 2) d && fills extent (field d 12 2) 14 d

@@ -70,15 +70,15 @@ fn images(d: &[u8], count: usize) -> bool
 }
 
 // "Format Identifier has a value 0x46414300", "Version Number has a value of 0x30313000", the record length, and "Number of
-// Facial Images value is ≥ 1".
-fn record_head(d: &[u8]) -> bool
+// Facial Images value is ≥ 1". That number is handed in, since the images are counted by it too.
+fn record_head(d: &[u8], count: usize) -> bool
     requires { ⌜ 14 ≤ length (now d) ⌝ }
-    ensures { λ r. ⌜ r ≡ recordHead (now (d .entry)) ⌝ }
+    ensures { λ r. ⌜ r ≡ recordHead count (now (d .entry)) ⌝ }
 {
     (number(d, 0, 4) == 0x46414300)
         & (number(d, 4, 4) == 0x30313000)
         & (number(d, 8, 4) == d.len() as u64)
-        & (1 <= number(d, 12, 2))
+        & (1 <= count)
 }
 
 // Whether these bytes are a facial record: the 14 bytes of its header, then as many images as it says, and nothing after.
@@ -88,8 +88,9 @@ pub fn is_facial(d: &[u8]) -> bool
     if d.len() < 14 {
         return false;
     }
-    if !record_head(d) {
+    let count = number(d, 12, 2) as usize;
+    if !record_head(d, count) {
         return false;
     }
-    images(d, number(d, 12, 2) as usize)
+    images(d, count)
 }
