@@ -3,15 +3,38 @@ use Prim.Native.Nat.{ℕ, _<_, _≤_}
 use mathlib.Core.Path.{_≡_}
 use mathlib.Core.Bool.{true, false}
 use mathlib.Core.List.{List}
+use lib.Dec.{leb}
 use lib.ListN.{length}
 use borrow.Author.Tests.{le-leb, lt-leb, eq-eqb, ne-eqb}
 use Rattle.laws.specs.Layout.{field, part}
 use Rattle.verdicts.specs.declared.Ruling.the-variants.{Kept, Breaks}
 use Rattle.verdicts.specs.declared.Fault.the-variants.{BadHeader, BadFascn}
 use Rattle.fascn.specs.Reading.{isFascn}
+use Rattle.dates.specs.Moment.{isMoment}
 use Rattle.cbeff.specs.Header.{data-part}
 use Rattle.cbeff.specs.Judged.{sizesHold, datesHold, formHolds, judged}
 use Rattle.cbeff.specs.declared.Biometric.{Biometric}
+
+-- ---- the dates
+
+module _ (v : List ℕ) where
+  pub no-creation : false ≡ isMoment (part v 12 8) → false ≡ datesHold v
+  unfolding datesHold
+  no-creation e = rw (← e)
+
+  module _ (c : true ≡ isMoment (part v 12 8)) where
+    pub no-from : false ≡ isMoment (part v 20 8) → false ≡ datesHold v
+    unfolding datesHold
+    no-from e = rw (← c, ← e)
+
+    module _ (f : true ≡ isMoment (part v 20 8)) where
+      pub no-to : false ≡ isMoment (part v 28 8) → false ≡ datesHold v
+      unfolding datesHold
+      no-to e = rw (← c, ← f, ← e)
+
+      pub all-dates : true ≡ isMoment (part v 28 8) → {from to : ℕ} → from ≡ field v 20 8 → to ≡ field v 28 8 → leb from to ≡ datesHold v
+      unfolding datesHold
+      all-dates t m n = rw (← c, ← f, ← t, m, n)
 
 -- ---- the value
 

@@ -81,9 +81,18 @@ fn dates_hold(v: &[u8]) -> bool
     requires { ⌜ 88 ≤ length (now v) ⌝ }
     ensures { λ r. ⌜ r ≡ datesHold (now (v .entry)) ⌝ }
 {
+    if !is_moment(&v[12..20]) {
+        return false;
+    }
+    if !is_moment(&v[20..28]) {
+        return false;
+    }
+    if !is_moment(&v[28..36]) {
+        return false;
+    }
     let from = number(v, 20, 8);
     let to = number(v, 28, 8);
-    is_moment(&v[12..20]) & is_moment(&v[20..28]) & is_moment(&v[28..36]) & (from <= to)
+    from <= to
 }
 
 // Type, data type, quality, creator.

@@ -2,23 +2,11 @@
 ghost use mathlib.Core.Path.{_≡_};
 ghost use Prim.Native.Nat.{_≤_};
 ghost use lib.ListN.{length};
-ghost use Rattle.laws.specs.Format.{_or_};
 ghost use Rattle.records.specs.Fills.{fills};
 ghost use Rattle.facial.specs.Judged.{informed, extent, recordHead, isFacial};
 use numbers::number;
 use records::Extent;
-
-fn is_data_type(n: u64) -> bool
-    ensures { λ r. ⌜ r ≡ (0 or 1) .test n ⌝ }
-{
-    (n == 0) | (n == 1)
-}
-
-fn is_source_type(n: u64) -> bool
-    ensures { λ r. ⌜ r ≡ (2 or 6) .test n ⌝ }
-{
-    (n == 2) | (n == 6)
-}
+use records::is_either;
 
 // "Facial Image Type is 1", "Image Data Type is 0 or 1", "Image Color Space is 1", "Source Type is 2 or 6"
 fn information(s: &[u8]) -> bool
@@ -26,9 +14,9 @@ fn information(s: &[u8]) -> bool
     ensures { λ r. ⌜ r ≡ informed (now (s .entry)) ⌝ }
 {
     (number(s, 0, 1) == 1)
-        & is_data_type(number(s, 1, 1))
+        & is_either(number(s, 1, 1), 0, 1)
         & (number(s, 6, 1) == 1)
-        & is_source_type(number(s, 7, 1))
+        & is_either(number(s, 7, 1), 2, 6)
 }
 
 // The block that stands at the front: it has at least 32 bytes and 8 for each feature point, and lies within the record.

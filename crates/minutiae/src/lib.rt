@@ -2,11 +2,11 @@
 ghost use mathlib.Core.Path.{_≡_};
 ghost use Prim.Native.Nat.{_*_, _≤_};
 ghost use lib.ListN.{length};
-ghost use Rattle.laws.specs.Format.{_or_};
 ghost use Rattle.minutiae.specs.Minutiae.{quality};
 ghost use Rattle.minutiae.specs.Judged.{pointHolds, pointsHold, viewHead, extent, recordHead, isMinutiae};
 use numbers::number;
 use records::Extent;
+use records::is_either;
 
 // The version number, 20 32 30 30: document 004's figure (9.4.1 b), which decides. Document 01 has 20 32 30 00, and so do
 // the cards in the field, which are refused by it. It stands here and in the definition `version`, and nowhere else.
@@ -40,25 +40,18 @@ fn points(s: &[u8], count: usize) -> bool
     true
 }
 
-// "view number 0 in the high four bits, impression 0 or 2 in the low": the byte is 0 or 2.
-fn is_impression(i: u64) -> bool
-    ensures { λ r. ⌜ r ≡ (0 or 2) .test i ⌝ }
-{
-    (i == 0) | (i == 2)
-}
-
 fn is_quality(q: u64) -> bool
     ensures { λ r. ⌜ r ≡ quality .test q ⌝ }
 {
     (q == 20) | (q == 40) | (q == 60) | (q == 80) | (q == 100) | (q == 254) | (q == 255)
 }
 
-// "position 0 to 10; view number and impression; quality"
+// "position 0 to 10; view number 0 in the high four bits, impression 0 or 2 in the low; quality": the second byte is 0 or 2.
 fn view_head(s: &[u8]) -> bool
     requires { ⌜ 6 ≤ length (now s) ⌝ }
     ensures { λ r. ⌜ r ≡ viewHead (now (s .entry)) ⌝ }
 {
-    (number(s, 0, 1) <= 10) & is_impression(number(s, 1, 1)) & is_quality(number(s, 2, 1))
+    (number(s, 0, 1) <= 10) & is_either(number(s, 1, 1), 0, 2) & is_quality(number(s, 2, 1))
 }
 
 // The view that stands at the front: its head, "count m, 0 to 128; m minutiae of 6 bytes; two zero bytes".

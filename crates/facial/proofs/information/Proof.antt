@@ -8,10 +8,10 @@ returns : tie.Need-returns
 unfolding informed
 returns c =
     rw (
-      c .is-source-type .ensures,
+      c .is-either2 .ensures,
       c .before .number4 .ensures .0,
       c .before .before .number3 .ensures .0,
-      c .before .before .before .is-data-type .ensures,
+      c .before .before .before .is-either .ensures,
       c .before .before .before .before .number2 .ensures .0,
       c .before .before .before .before .before .number .ensures .0,
     )
