@@ -1,15 +1,13 @@
 //! The printed date of request 2026-03, and the days of the calendar in every form.
 
 use second::batch::Call;
-use second::card::{length_at, CONFORMS};
-use second::generate::{Inputs, Rng, EXAMPLE_DAY};
+use second::dates;
+use second::generate::{Inputs, Rng};
 use second::samples::printed;
 use second::values::is_printed_date;
-use second::{dates, report, view, write, Verdict};
 use std::collections::BTreeSet;
 
 mod common;
-use common::verdict;
 
 const ROUNDS: usize = 20_000;
 
@@ -134,33 +132,9 @@ fn every_digit() {
 // ---------------------------------------------------------------------------------------------
 // Containers and sheets
 
-/// 16, 19 or none, named by 04 at this place.
-fn told(number: u64, place: u64) -> Verdict {
-    if number == 0 {
-        CONFORMS
-    } else {
-        (number, place, Some(0x04))
-    }
-}
-
-/// What each call answers on a PRINTED with this date. There are 18 bytes between the outer length and 04.
+/// What each call answers on a PRINTED with this date: 16, 19 or none. There are 18 bytes between the outer length and 04.
 fn each_call(date: &[u8], number: u64) {
-    let card = printed(b"AGENT", date);
-    let (container, sheet) = (card.container(), card.sheet());
-    let place = 1 + length_at(&container[1..]).unwrap().1 as u64 + 18;
-    assert_eq!(verdict(4, EXAMPLE_DAY, &container), told(number, place), "{:?}", date);
-
-    let (viewed, part) = view(4, EXAMPLE_DAY, &container, 0x04);
-    assert_eq!((viewed, part), (told(number, place), if number == 0 { date } else { &[] }));
-
-    let mut room = vec![0xAA; container.len()];
-    let (written, length) = write(4, EXAMPLE_DAY, &sheet, &mut room);
-    assert_eq!((written, length), (told(number, 18), if number == 0 { container.len() as u64 } else { 0 }));
-    assert_eq!(room, if number == 0 { container.clone() } else { vec![0; container.len()] });
-
-    let mut room = [0xAA; 512];
-    let (_, length) = report(4, EXAMPLE_DAY, &container, &mut room);
-    let page = String::from_utf8(room[..length as usize].to_vec()).unwrap();
+    let (place, page) = common::each_call(&printed(b"AGENT", date), 2, 0x04, 18, number);
     assert_eq!(page.contains("\n04 9\n"), number == 0);
     assert_eq!(page.contains(&format!("\nverdict {} {} 04\n", number, place)), number != 0);
 }

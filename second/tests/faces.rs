@@ -1,11 +1,10 @@
 //! The facial record of request 2026-05.
 
 use second::batch::Call;
-use second::card::{length_at, CONFORMS};
+use second::card::CONFORMS;
 use second::faces::{self, around, block_for_any_points, facial, least, Image, FIELDS, LEAST_RECORD};
 use second::generate::{conforming, personal_twin, value_of, Card, Inputs, Rng, EXAMPLE_DAY};
 use second::samples::{self, face, portrait, wrong_fascn, PICTURE};
-use second::{check, report, view, write, Verdict};
 use std::collections::BTreeSet;
 
 mod common;
@@ -300,43 +299,15 @@ fn order() {
 // ---------------------------------------------------------------------------------------------
 // Containers and sheets
 
-/// What is told of BC at this place.
-fn told(number: u64, place: u64) -> Verdict {
-    if number == 0 {
-        CONFORMS
-    } else {
-        (number, place, Some(0xBC))
-    }
-}
-
 /// What each call answers on a FACE with this record.
 fn each_call(record: &[u8], number: u64) {
     let card = face(100, record, 1);
-    let (container, sheet) = (card.container(), card.sheet());
-    let place = 1 + length_at(&container[1..]).unwrap().1 as u64;
-    let of = |bytes: &[u8]| if number == 0 { bytes.to_vec() } else { Vec::new() };
-    let in_room = |bytes: &[u8]| if number == 0 { bytes.to_vec() } else { vec![0; bytes.len()] };
-
-    let mut room = vec![0xAA; sheet.len()];
-    let answer = check(7, EXAMPLE_DAY, &container, &mut room);
-    assert_eq!((answer.number, answer.place, answer.tag), told(number, place));
-    assert_eq!((answer.room, answer.length as usize, room), (0, of(&sheet).len(), in_room(&sheet)));
-
-    let (viewed, part) = view(7, EXAMPLE_DAY, &container, 0xBC);
-    assert_eq!((viewed, part), (told(number, place), &of(card.rows[0].as_ref().unwrap())[..]));
-
-    let mut room = vec![0xAA; container.len()];
-    let (written, length) = write(7, EXAMPLE_DAY, &sheet, &mut room);
-    assert_eq!((written, length as usize, room), (told(number, 0), of(&container).len(), in_room(&container)));
-
-    let mut room = [0xAA; 512];
-    let (_, length) = report(7, EXAMPLE_DAY, &container, &mut room);
-    let page = String::from_utf8(room[..length as usize].to_vec()).unwrap();
+    let (place, page) = common::each_call(&card, 0, 0xBC, 0, number);
     let lines = match number {
         0 => format!("0 0 --\nELEMENTS 2\nBC {}\nFE 0\nOPEN 2\nagency 1234\nsystem 0001\n", 89 + record.len()),
         _ => format!("{} {} BC\nELEMENTS 0\nOPEN 0\n", number, place),
     };
-    assert_eq!(page, format!("CARD 4\nkind FACE\nbytes {}\ntoday 20260301\nverdict {}", container.len(), lines));
+    assert_eq!(page, format!("CARD 4\nkind FACE\nbytes {}\ntoday 20260301\nverdict {}", card.container().len(), lines));
 }
 
 #[test]
@@ -451,38 +422,18 @@ fn every_damage_is_made() {
         let record = faces::damaged(&mut rng);
         found.extend(first_fault(&record));
     }
-    let sorts = [
-        "short",
-        "format",
-        "version",
-        "length",
-        "no image",
-        "image missing",
-        "block short",
-        "block long",
-        "points",
-        "image type",
-        "data type",
-        "colour space",
-        "source type",
-        "bytes behind",
-    ];
-    for sort in sorts {
+    for sort in OF_A_HEADER.iter().chain(&OF_AN_IMAGE).chain(&["bytes behind"]) {
         assert!(found.contains(&(sort, 0)), "{}", sort);
     }
-    for sort in [
-        "image missing",
-        "block short",
-        "block long",
-        "points",
-        "image type",
-        "data type",
-        "colour space",
-        "source type",
-    ] {
+    for sort in OF_AN_IMAGE {
         assert!(found.contains(&(sort, 1)), "{}", sort);
     }
 }
+
+const OF_A_HEADER: [&str; 5] = ["short", "format", "version", "length", "no image"];
+
+const OF_AN_IMAGE: [&str; 8] =
+    ["image missing", "block short", "block long", "points", "image type", "data type", "colour space", "source type"];
 
 /// Which rule a record breaks first, and whether that is in its first image, 0, or in a later one, 1.
 fn first_fault(record: &[u8]) -> Option<(&'static str, usize)> {

@@ -1,13 +1,41 @@
 //! What several tests use.
 #![allow(dead_code)]
 
-use second::{check, Checked, Verdict};
+use second::card::{length_at, CONFORMS};
+use second::generate::{Card, EXAMPLE_DAY};
+use second::{check, report, view, write, Checked, Verdict};
 
 /// The verdict on a container, asked for with an empty room: beside a 0 there is the 3.
 pub fn verdict(kind: u64, today: u64, container: &[u8]) -> Verdict {
     let Checked { number, place, tag, room, length } = check(kind, today, container, &mut []);
     assert_eq!((room, length), (if number == 0 { 3 } else { 0 }, 0));
     (number, place, tag)
+}
+
+/// What each call answers on a card of which one row, of the element with this tag, gets this number. So many bytes stand before the
+/// element behind the outer length, and as many before the row's count in the sheet. Handed out are the element's place and the report.
+pub fn each_call(card: &Card, row: usize, tag: u16, ahead: u64, number: u64) -> (u64, String) {
+    let (container, sheet) = (card.container(), card.sheet());
+    let place = 1 + length_at(&container[1..]).unwrap().1 as u64 + ahead;
+    let told = |place| if number == 0 { CONFORMS } else { (number, place, Some(tag)) };
+    let of = |bytes: &[u8]| if number == 0 { bytes.to_vec() } else { Vec::new() };
+    let in_room = |bytes: &[u8]| if number == 0 { bytes.to_vec() } else { vec![0; bytes.len()] };
+
+    let mut room = vec![0xAA; sheet.len()];
+    let answer = check(card.kind, EXAMPLE_DAY, &container, &mut room);
+    assert_eq!((answer.number, answer.place, answer.tag), told(place), "{:?}", card.rows[row]);
+    assert_eq!((answer.room, answer.length as usize, room), (0, of(&sheet).len(), in_room(&sheet)));
+
+    let (viewed, part) = view(card.kind, EXAMPLE_DAY, &container, tag.into());
+    assert_eq!((viewed, part), (told(place), &of(card.rows[row].as_ref().unwrap())[..]));
+
+    let mut room = vec![0xAA; container.len()];
+    let (written, length) = write(card.kind, EXAMPLE_DAY, &sheet, &mut room);
+    assert_eq!((written, length as usize, room), (told(ahead), of(&container).len(), in_room(&container)));
+
+    let mut room = [0xAA; 512];
+    let (_, length) = report(card.kind, EXAMPLE_DAY, &container, &mut room);
+    (place, String::from_utf8(room[..length as usize].to_vec()).unwrap())
 }
 
 /// What the length at the front says, and what follows it. It is worked out by another way than the program's.
