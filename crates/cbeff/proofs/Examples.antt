@@ -16,7 +16,7 @@ use Rattle.fascn.proofs.Examples.{p-bytes}
 use Rattle.dates.specs.Calendar.{daysIn, exists}
 use Rattle.dates.specs.Moment.{isMoment}
 use Rattle.plain.specs.Plain.{ended, isCreator}
-use Rattle.records.specs.Fills.{fills}
+use Rattle.records.specs.Fills.{fills, whole}
 use Rattle.minutiae.specs.Judged as minutiae
 use Rattle.minutiae.proofs.Examples as minutiae-examples
 use Rattle.facial.specs.Judged as facial
@@ -66,7 +66,7 @@ pub each-kept :
     × (of-face face-value ≡ kept)
     × (of-fingers face-value ≡ breaks BadHeader)
     × (of-face fingers-value ≡ breaks BadHeader)
-unfolding isMoment exists daysIn isCreator ended isFascn decoded valuesOf framed exclusive ones fills minutiae.isMinutiae minutiae.recordHead minutiae.extent minutiae.viewHead minutiae.pointsHold minutiae.pointHolds facial.isFacial facial.recordHead facial.extent facial.informed digits
+unfolding isMoment exists daysIn isCreator ended isFascn decoded valuesOf framed exclusive ones fills whole minutiae.isMinutiae minutiae.recordHead minutiae.extent minutiae.viewHead minutiae.pointsHold minutiae.pointHolds facial.isFacial facial.recordHead facial.extent facial.informed digits
 each-kept = (refl, refl, refl, refl)
 
 -- "The quality is a signed byte, -2 to 100": FD is -3, FE -2, FF -1, 64 hex 100
@@ -76,14 +76,14 @@ pub fingers-quality :
     × (of-fingers (set fingers-value 40 0xFF) ≡ kept)
     × (of-fingers (set fingers-value 40 0x64) ≡ kept)
     × (of-fingers (set fingers-value 40 0x65) ≡ breaks BadHeader)
-unfolding isMoment exists daysIn isCreator ended isFascn decoded valuesOf framed exclusive ones fills minutiae.isMinutiae minutiae.recordHead minutiae.extent minutiae.viewHead minutiae.pointsHold minutiae.pointHolds facial.isFacial facial.recordHead facial.extent facial.informed digits
+unfolding isMoment exists daysIn isCreator ended isFascn decoded valuesOf framed exclusive ones fills whole minutiae.isMinutiae minutiae.recordHead minutiae.extent minutiae.viewHead minutiae.pointsHold minutiae.pointHolds facial.isFacial facial.recordHead facial.extent facial.informed digits
 fingers-quality = (refl, refl, refl, refl, refl)
 
 -- -1 is not known in face
 pub face-quality :
     (of-face (set face-value 40 0xFE) ≡ kept)
     × (of-face (set face-value 40 0xFF) ≡ breaks BadHeader)
-unfolding isMoment exists daysIn isCreator ended isFascn decoded valuesOf framed exclusive ones fills minutiae.isMinutiae minutiae.recordHead minutiae.extent minutiae.viewHead minutiae.pointsHold minutiae.pointHolds facial.isFacial facial.recordHead facial.extent facial.informed digits
+unfolding isMoment exists daysIn isCreator ended isFascn decoded valuesOf framed exclusive ones fills whole minutiae.isMinutiae minutiae.recordHead minutiae.extent minutiae.viewHead minutiae.pointsHold minutiae.pointHolds facial.isFacial facial.recordHead facial.extent facial.informed digits
 face-quality = (refl, refl)
 
 -- a FASC-N that is none (P2's) is told before the reserved bytes, which alone are the header's fault; and a creator that is none before it
@@ -92,14 +92,14 @@ pub fascn-order :
     × (of-fingers (set fingers-value 84 0x01) ≡ breaks BadHeader)
     × (of-fingers (set (set fingers-value 83 0xEA) 84 0x01) ≡ breaks BadFascn)
     × (of-fingers (set (set fingers-value 41 0x1F) 83 0xEA) ≡ breaks BadHeader)
-unfolding isMoment exists daysIn isCreator ended isFascn decoded valuesOf framed exclusive ones fills minutiae.isMinutiae minutiae.recordHead minutiae.extent minutiae.viewHead minutiae.pointsHold minutiae.pointHolds facial.isFacial facial.recordHead facial.extent facial.informed digits
+unfolding isMoment exists daysIn isCreator ended isFascn decoded valuesOf framed exclusive ones fills whole minutiae.isMinutiae minutiae.recordHead minutiae.extent minutiae.viewHead minutiae.pointsHold minutiae.pointHolds facial.isFacial facial.recordHead facial.extent facial.informed digits
 fascn-order = (refl, refl, refl, refl)
 
 -- the version 20 32 30 00 in the minutiae is told after the reserved bytes
 pub minutiae-order :
     (of-fingers (set fingers-value 95 0x00) ≡ breaks BadMinutiae)
     × (of-fingers (set (set fingers-value 95 0x00) 84 0x01) ≡ breaks BadHeader)
-unfolding isMoment exists daysIn isCreator ended isFascn decoded valuesOf framed exclusive ones fills minutiae.isMinutiae minutiae.recordHead minutiae.extent minutiae.viewHead minutiae.pointsHold minutiae.pointHolds facial.isFacial facial.recordHead facial.extent facial.informed digits
+unfolding isMoment exists daysIn isCreator ended isFascn decoded valuesOf framed exclusive ones fills whole minutiae.isMinutiae minutiae.recordHead minutiae.extent minutiae.viewHead minutiae.pointsHold minutiae.pointHolds facial.isFacial facial.recordHead facial.extent facial.informed digits
 minutiae-order = (refl, refl)
 
 -- a source type 3 in the face record: after the reserved bytes and after the FASC-N
@@ -107,7 +107,7 @@ pub face-order :
     (of-face (set face-value 129 3) ≡ breaks BadFace)
     × (of-face (set (set face-value 129 3) 84 0x01) ≡ breaks BadHeader)
     × (of-face (set (set face-value 129 3) 83 0xEA) ≡ breaks BadFascn)
-unfolding isMoment exists daysIn isCreator ended isFascn decoded valuesOf framed exclusive ones fills minutiae.isMinutiae minutiae.recordHead minutiae.extent minutiae.viewHead minutiae.pointsHold minutiae.pointHolds facial.isFacial facial.recordHead facial.extent facial.informed digits
+unfolding isMoment exists daysIn isCreator ended isFascn decoded valuesOf framed exclusive ones fills whole minutiae.isMinutiae minutiae.recordHead minutiae.extent minutiae.viewHead minutiae.pointsHold minutiae.pointHolds facial.isFacial facial.recordHead facial.extent facial.informed digits
 face-order = (refl, refl, refl)
 
 -- d and s are not zero, also where the length is as they say; and it is as they say
@@ -115,7 +115,7 @@ pub sizes :
     (of-fingers (fingers-heading 0 39 ++ minutiae-examples.smallest ++ 0xAA ∷ []) ≡ breaks BadHeader)
     × (of-fingers (fingers-heading 38 0 ++ minutiae-examples.smallest) ≡ breaks BadHeader)
     × (of-fingers (fingers-heading 38 2 ++ minutiae-examples.smallest ++ 0xAA ∷ []) ≡ breaks BadHeader)
-unfolding isMoment exists daysIn isCreator ended isFascn decoded valuesOf framed exclusive ones fills minutiae.isMinutiae minutiae.recordHead minutiae.extent minutiae.viewHead minutiae.pointsHold minutiae.pointHolds facial.isFacial facial.recordHead facial.extent facial.informed digits
+unfolding isMoment exists daysIn isCreator ended isFascn decoded valuesOf framed exclusive ones fills whole minutiae.isMinutiae minutiae.recordHead minutiae.extent minutiae.viewHead minutiae.pointsHold minutiae.pointHolds facial.isFacial facial.recordHead facial.extent facial.informed digits
 sizes = (refl, refl, refl)
 
 -- "from not after to": the same second is kept, and one second later is not
@@ -123,7 +123,7 @@ pub dates :
     (of-face (timed later later) ≡ kept)
     × (of-face (set (timed later later) 26 2) ≡ breaks BadHeader)
     × (of-face (timed later noon) ≡ breaks BadHeader)
-unfolding isMoment exists daysIn isCreator ended isFascn decoded valuesOf framed exclusive ones fills minutiae.isMinutiae minutiae.recordHead minutiae.extent minutiae.viewHead minutiae.pointsHold minutiae.pointHolds facial.isFacial facial.recordHead facial.extent facial.informed digits
+unfolding isMoment exists daysIn isCreator ended isFascn decoded valuesOf framed exclusive ones fills whole minutiae.isMinutiae minutiae.recordHead minutiae.extent minutiae.viewHead minutiae.pointsHold minutiae.pointHolds facial.isFacial facial.recordHead facial.extent facial.informed digits
 dates = (refl, refl, refl)
 
 -- too short for the header, for the data, for the signature; 88 bytes are refused also where d and s say 88; and no bytes at all
@@ -133,5 +133,5 @@ pub too-short :
     × (of-face (take 134 face-value) ≡ breaks BadHeader)
     × (of-fingers (fingers-heading 0 0) ≡ breaks BadHeader)
     × (of-fingers [] ≡ breaks BadHeader)
-unfolding isMoment exists daysIn isCreator ended isFascn decoded valuesOf framed exclusive ones fills minutiae.isMinutiae minutiae.recordHead minutiae.extent minutiae.viewHead minutiae.pointsHold minutiae.pointHolds facial.isFacial facial.recordHead facial.extent facial.informed digits
+unfolding isMoment exists daysIn isCreator ended isFascn decoded valuesOf framed exclusive ones fills whole minutiae.isMinutiae minutiae.recordHead minutiae.extent minutiae.viewHead minutiae.pointsHold minutiae.pointHolds facial.isFacial facial.recordHead facial.extent facial.informed digits
 too-short = (refl, refl, refl, refl, refl)

@@ -14,10 +14,9 @@ use Rattle.laws.specs.Bytes.{Bytes}
 use Rattle.laws.specs.Layout.{field}
 use Rattle.laws.specs.Format.{Format, end, kept, breaks, free, times}
 use Rattle.laws.proofs.Cases.{and-true}
-use Rattle.laws.proofs.Formats.{inside, format-exact, skim, skim-keeps, cond-and, kept-if}
-use Rattle.records.specs.Fills.{fills}
+use Rattle.laws.proofs.Formats.{inside, skim, cond-and, kept-if}
 use Rattle.records.specs.declared.Extent.the-variants.{Takes}
-use Rattle.records.proofs.Exact.{Extends, fills-exact}
+use Rattle.records.proofs.Exact.{Extends, whole-exact}
 use Rattle.facial.specs.Facial.{information, block, facial, IsFacial}
 use Rattle.facial.specs.Judged.{informed, extent, recordHead, isFacial}
 use Rattle.facial.proofs.Agreed.{facial-agrees}
@@ -87,24 +86,7 @@ record-judged : (d : List ℕ) → skim (facial (length d)) 0 d ≡ cond (record
 unfolding recordHead
 record-judged d = simp cond-and
 
-true-kept : (d : List ℕ) → isFacial d ≡ true → skim (facial (length d)) 0 d ≡ kept
-unfolding isFacial
-true-kept d e =
-    let a = and-true (leb 14 (length d) && recordHead (field d 12 2) d) (fills extent (field d 12 2) 14 d) e in
-    let h = and-true (leb 14 (length d)) (recordHead (field d 12 2) d) (a .0) in
-    rw (record-judged d, h .1) (fills-exact block extent blocks (field d 12 2) 14 d .0 (a .1))
-
-kept-true : (d : List ℕ) → skim (facial (length d)) 0 d ≡ kept → isFacial d ≡ true
-unfolding isFacial
-kept-true d e =
-    let f = times (field d 12 2) block (end tt) in
-    let a = kept-if (recordHead (field d 12 2) d) (skim f 14 d) tt (sym (record-judged d) ∙ e) in
-    rw (le-leb _ _ (inside f 14 d (a .1)), a .0) (fills-exact block extent blocks (field d 12 2) 14 d .1 (a .1))
-
 -- the test says that these bytes are a facial record exactly when they are one
 pub facial-exact : (d : List ℕ) → Bytes d → (isFacial d ≡ true) ↔ IsFacial d
-facial-exact d b =
-    let f = facial (length d) in
-    let x = format-exact f (facial-agrees (length d)) d b in
-    let k = skim-keeps f 0 d in
-    (λ e. x .0 (k .1 (true-kept d e)), λ l. kept-true d (k .0 (x .1 l)))
+unfolding isFacial
+facial-exact d b = whole-exact block extent blocks (facial (length d)) (facial-agrees (length d)) d b 14 (recordHead (field d 12 2) d) (field d 12 2) (record-judged d)

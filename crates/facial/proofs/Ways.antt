@@ -1,14 +1,13 @@
 -- What the tested form answers on each way out of the code. Assumes nothing.
 use Prim.Native.Nat.{ℕ, _+_, _*_, _<_, _≤_}
 use mathlib.Core.Path.{_≡_}
-use mathlib.Core.Bool.{Bool, true, false}
+use mathlib.Core.Bool.{true, false}
 use mathlib.Core.List.{List}
 use lib.ListN.{length, drop}
 use borrow.Author.Tests.{le-leb, lt-leb}
 use Rattle.laws.specs.Layout.{field}
-use Rattle.records.specs.Fills.{fills}
 use Rattle.records.specs.declared.Extent.the-variants.{Takes, None}
-use Rattle.facial.specs.Judged.{informed, extent, recordHead, isFacial}
+use Rattle.facial.specs.Judged.{informed, extent}
 
 -- ---- a block
 module _ (s : List ℕ) where
@@ -34,19 +33,3 @@ module _ (s : List ℕ) where
         pub takes : true ≡ informed (drop (20 + 8 * p) s) → Takes size ≡ extent s
         unfolding extent
         takes h = rw (le-leb 32 (length s) l, ← e, ← f, le-leb (32 + 8 * p) size r, le-leb size (length s) w, ← h)
-
--- ---- the record
-module _ (d : List ℕ) where
-  pub no-header : length d < 14 → false ≡ isFacial d
-  unfolding isFacial
-  no-header h = rw (lt-leb 14 (length d) h)
-
-  module _ (l : 14 ≤ length d) where
-    module _ (n : ℕ) (e : n ≡ field d 12 2) where
-      pub bad-header : false ≡ recordHead n d → false ≡ isFacial d
-      unfolding isFacial
-      bad-header h = rw (le-leb 14 (length d) l, ← e, ← h)
-
-      pub by-images : true ≡ recordHead n d → (b : Bool) → b ≡ fills extent n 14 d → b ≡ isFacial d
-      unfolding isFacial
-      by-images h b f = rw (le-leb 14 (length d) l, ← e, ← h, f)

@@ -1,13 +1,13 @@
 -- The record as the code tests it, field by field; proofs/Exact.antt ties it to the table.
 use Prim.Native.Nat.{ℕ, _+_, _*_}
-use mathlib.Core.Bool.{Bool, cond, _&&_}
+use mathlib.Core.Bool.{Bool, cond}
 use mathlib.Core.List.{List, [], _∷_}
 use lib.ListN.{length, drop}
 use lib.Dec.{leb, eqb}
 use Rattle.laws.specs.Layout.{field}
 use Rattle.laws.specs.Format.{_or_}
 use Rattle.laws.specs.Tests.{all}
-use Rattle.records.specs.Fills.{fills}
+use Rattle.records.specs.Fills.{whole}
 use Rattle.records.specs.declared.Extent.{Extent}
 use Rattle.records.specs.declared.Extent.the-variants.{Takes, None}
 
@@ -37,4 +37,4 @@ recordHead count d = all (recordTests count d)
 
 -- these bytes are a facial record
 unfoldable pub isFacial : List ℕ → Bool
-isFacial d = leb 14 (length d) && recordHead (field d 12 2) d && fills extent (field d 12 2) 14 d
+isFacial d = whole extent 14 (recordHead (field d 12 2) d) (field d 12 2) d

@@ -14,12 +14,11 @@ use Rattle.laws.specs.Bytes.{Bytes}
 use Rattle.laws.specs.Layout.{field}
 use Rattle.laws.specs.Format.{Format, end, kept, breaks, times}
 use Rattle.laws.proofs.Cases.{and-true}
-use Rattle.laws.proofs.Formats.{inside, format-exact, skim, skim-keeps, cond-and, kept-if}
+use Rattle.laws.proofs.Formats.{inside, skim, cond-and, kept-if}
 use Rattle.minutiae.specs.Minutiae.{point, view, minutiae, IsMinutiae}
 use Rattle.minutiae.specs.Judged.{pointHolds, pointsHold, viewHead, extent, recordHead, isMinutiae}
-use Rattle.records.specs.Fills.{fills}
 use Rattle.records.specs.declared.Extent.the-variants.{Takes}
-use Rattle.records.proofs.Exact.{Extends, fills-exact}
+use Rattle.records.proofs.Exact.{Extends, whole-exact}
 use Rattle.minutiae.proofs.Ways.{takes}
 use Rattle.minutiae.proofs.Tested.{view-told}
 use Rattle.minutiae.proofs.Agreed.{minutiae-agrees}
@@ -92,24 +91,7 @@ given k at d e =
 views : Extends view extent
 views = record { taken = taken; given = given }
 
-true-kept : (d : List ℕ) → isMinutiae d ≡ true → skim (minutiae (length d)) 0 d ≡ kept
-unfolding isMinutiae
-true-kept d e =
-    let a = and-true (leb 26 (length d) && recordHead d) (fills extent 2 26 d) e in
-    let h = and-true (leb 26 (length d)) (recordHead d) (a .0) in
-    rw (record-judged d, h .1) (fills-exact view extent views 2 26 d .0 (a .1))
-
-kept-true : (d : List ℕ) → skim (minutiae (length d)) 0 d ≡ kept → isMinutiae d ≡ true
-unfolding isMinutiae
-kept-true d e =
-    let f = times 2 view (end tt) in
-    let a = kept-if (recordHead d) (skim f 26 d) tt (sym (record-judged d) ∙ e) in
-    rw (le-leb _ _ (inside f 26 d (a .1)), a .0) (fills-exact view extent views 2 26 d .1 (a .1))
-
 -- the test says that these bytes are a minutiae record exactly when they are one
 pub minutiae-exact : (d : List ℕ) → Bytes d → (isMinutiae d ≡ true) ↔ IsMinutiae d
-minutiae-exact d b =
-    let f = minutiae (length d) in
-    let x = format-exact f (minutiae-agrees (length d)) d b in
-    let k = skim-keeps f 0 d in
-    (λ e. x .0 (k .1 (true-kept d e)), λ l. kept-true d (k .0 (x .1 l)))
+unfolding isMinutiae
+minutiae-exact d b = whole-exact view extent views (minutiae (length d)) (minutiae-agrees (length d)) d b 26 (recordHead d) 2 (record-judged d)

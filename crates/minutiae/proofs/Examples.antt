@@ -6,7 +6,7 @@ use mathlib.Core.List.{List, [], _∷_, _++_}
 use lib.ListN.{length, set, take}
 use Rattle.laws.specs.Digits.{digits}
 use Rattle.laws.specs.Layout.{number}
-use Rattle.records.specs.Fills.{fills}
+use Rattle.records.specs.Fills.{fills, whole}
 use Rattle.minutiae.specs.Minutiae.{version}
 use Rattle.minutiae.specs.Judged.{pointHolds, pointsHold, viewHead, extent, recordHead, isMinutiae}
 
@@ -38,72 +38,72 @@ unfolding digits
 lengths = (refl, refl)
 
 pub smallest-kept : isMinutiae smallest ≡ true
-unfolding isMinutiae recordHead fills extent viewHead pointsHold pointHolds digits
+unfolding isMinutiae recordHead whole fills extent viewHead pointsHold pointHolds digits
 smallest-kept = refl
 
 pub largest-kept : isMinutiae largest ≡ true
-unfolding isMinutiae recordHead fills extent viewHead pointsHold pointHolds digits
+unfolding isMinutiae recordHead whole fills extent viewHead pointsHold pointHolds digits
 largest-kept = refl
 
 -- ---- refused: one byte changed
 
 -- the version of document 01, 20 32 30 00
 pub old-version : isMinutiae (set largest 7 0x00) ≡ false
-unfolding isMinutiae recordHead fills extent viewHead pointsHold pointHolds digits
+unfolding isMinutiae recordHead whole fills extent viewHead pointsHold pointHolds digits
 old-version = refl
 
 pub type-3 : isMinutiae (set largest 30 0xFF) ≡ false
-unfolding isMinutiae recordHead fills extent viewHead pointsHold pointHolds digits
+unfolding isMinutiae recordHead whole fills extent viewHead pointsHold pointHolds digits
 type-3 = refl
 
 -- the last point of the second view
 pub y-bits : isMinutiae (set largest 1568 0x40) ≡ false
-unfolding isMinutiae recordHead fills extent viewHead pointsHold pointHolds digits
+unfolding isMinutiae recordHead whole fills extent viewHead pointsHold pointHolds digits
 y-bits = refl
 
 pub angle-180 : isMinutiae (set largest 1570 180) ≡ false
-unfolding isMinutiae recordHead fills extent viewHead pointsHold pointHolds digits
+unfolding isMinutiae recordHead whole fills extent viewHead pointsHold pointHolds digits
 angle-180 = refl
 
 pub quality-101 : isMinutiae (set largest 1571 101) ≡ false
-unfolding isMinutiae recordHead fills extent viewHead pointsHold pointHolds digits
+unfolding isMinutiae recordHead whole fills extent viewHead pointsHold pointHolds digits
 quality-101 = refl
 
 pub position-11 : isMinutiae (set largest 26 11) ≡ false
-unfolding isMinutiae recordHead fills extent viewHead pointsHold pointHolds digits
+unfolding isMinutiae recordHead whole fills extent viewHead pointsHold pointHolds digits
 position-11 = refl
 
 pub impression-1 : isMinutiae (set largest 27 1) ≡ false
-unfolding isMinutiae recordHead fills extent viewHead pointsHold pointHolds digits
+unfolding isMinutiae recordHead whole fills extent viewHead pointsHold pointHolds digits
 impression-1 = refl
 
 pub finger-quality-50 : isMinutiae (set largest 28 50) ≡ false
-unfolding isMinutiae recordHead fills extent viewHead pointsHold pointHolds digits
+unfolding isMinutiae recordHead whole fills extent viewHead pointsHold pointHolds digits
 finger-quality-50 = refl
 
 pub final-zero : isMinutiae (set largest 1573 1) ≡ false
-unfolding isMinutiae recordHead fills extent viewHead pointsHold pointHolds digits
+unfolding isMinutiae recordHead whole fills extent viewHead pointsHold pointHolds digits
 final-zero = refl
 
 -- ---- refused: another length. Where the record length says so too, it is refused all the same
 
 -- 129 points, and a record length that counts them
 pub count-129 : isMinutiae (a-record 1580 129 128) ≡ false
-unfolding isMinutiae recordHead fills extent viewHead pointsHold pointHolds digits
+unfolding isMinutiae recordHead whole fills extent viewHead pointsHold pointHolds digits
 count-129 = refl
 
 pub cut-off : (isMinutiae (take 1573 largest) ≡ false) × (isMinutiae (take 1573 (a-record 1573 128 128)) ≡ false)
-unfolding isMinutiae recordHead fills extent viewHead pointsHold pointHolds digits
+unfolding isMinutiae recordHead whole fills extent viewHead pointsHold pointHolds digits
 cut-off = (refl, refl)
 
 pub appended : (isMinutiae (largest ++ 0 ∷ []) ≡ false) × (isMinutiae (a-record 1575 128 128 ++ 0 ∷ []) ≡ false)
-unfolding isMinutiae recordHead fills extent viewHead pointsHold pointHolds digits
+unfolding isMinutiae recordHead whole fills extent viewHead pointsHold pointHolds digits
 appended = (refl, refl)
 
 pub wrong-length : isMinutiae (a-record 1573 128 128) ≡ false
-unfolding isMinutiae recordHead fills extent viewHead pointsHold pointHolds digits
+unfolding isMinutiae recordHead whole fills extent viewHead pointsHold pointHolds digits
 wrong-length = refl
 
 pub none : isMinutiae [] ≡ false
-unfolding isMinutiae recordHead fills extent viewHead pointsHold pointHolds digits
+unfolding isMinutiae recordHead whole fills extent viewHead pointsHold pointHolds digits
 none = refl

@@ -10,8 +10,7 @@ use Rattle.laws.specs.Layout.{field}
 use Rattle.laws.specs.Tests.{all}
 use Rattle.laws.proofs.Cases.{and-true, all-true}
 use Rattle.minutiae.specs.Judged.{pointsHold, viewHead, sizeTests, sized, extent, recordHead, isMinutiae}
-use Rattle.records.specs.Fills.{fills}
-use Rattle.records.proofs.Ways.{takes-of, fills-told, fills-whole}
+use Rattle.records.proofs.Ways.{takes-of, fills-told, fills-whole, whole-told}
 use Rattle.records.specs.declared.Extent.the-variants.{Takes}
 
 pub record View (s : List ℕ) (n : ℕ) : Type 0 where
@@ -56,8 +55,7 @@ pub record Whole (d : List ℕ) : Type 0 where
 pub record-told : (d : List ℕ) → isMinutiae d ≡ true → Whole d
 unfolding isMinutiae
 record-told d e =
-    let a = and-true (leb 26 (length d) && recordHead d) (fills extent 2 26 d) e in
-    let h = and-true (leb 26 (length d)) (recordHead d) (a .0) in
-    let s = fills-told extent 1 26 d (a .1) in
+    let w = whole-told extent 26 (recordHead d) 2 d e in
+    let s = fills-told extent 1 26 d (w .2) in
     let t = fills-told extent 0 (26 + s .0) d (s .2) in
-    record { n = s .0; m = t .0; long = leb-true _ _ (h .0); head = h .1; first = s .1; second = t .1; whole = fills-whole extent (26 + s .0 + t .0) d (t .2) }
+    record { n = s .0; m = t .0; long = w .0; head = w .1; first = s .1; second = t .1; whole = fills-whole extent (26 + s .0 + t .0) d (t .2) }

@@ -1,7 +1,7 @@
 -- What the tested form answers on each way out of the code. Assumes nothing.
 use Prim.Native.Nat.{ℕ, zero, suc, _+_, _-_, _*_, _<_, _≤_}
 use mathlib.Core.Path.{_≡_, refl}
-use mathlib.Core.Bool.{Bool, true, false}
+use mathlib.Core.Bool.{true, false}
 use mathlib.Core.List.{List}
 use native.Mathlib.Omega.{arith}
 use native.Mathlib.Nat.{not-suc-le-zero}
@@ -9,8 +9,7 @@ use lib.ListN.{length, drop}
 use lib.Seq.{drop-drop}
 use borrow.Author.Tests.{le-leb, lt-leb, eq-eqb, ne-eqb}
 use Rattle.laws.specs.Layout.{field}
-use Rattle.minutiae.specs.Judged.{pointHolds, pointsHold, viewHead, extent, recordHead, isMinutiae}
-use Rattle.records.specs.Fills.{fills}
+use Rattle.minutiae.specs.Judged.{pointHolds, pointsHold, viewHead, extent}
 use Rattle.records.specs.declared.Extent.the-variants.{Takes, None}
 
 -- ---- the points
@@ -63,18 +62,3 @@ module _ (s : List ℕ) where
             pub takes : field s (4 + 6 * m) 2 ≡ 0 → Takes (6 + 6 * m) ≡ extent s
             unfolding extent
             takes z = rw (le-leb 6 (length s) l, ← h, ← e, le-leb m 128 k, le-leb (6 + 6 * m) (length s) f, ← p, eq-eqb _ _ z)
-
--- ---- the record
-module _ (d : List ℕ) where
-  pub no-room : length d < 26 → false ≡ isMinutiae d
-  unfolding isMinutiae
-  no-room h = rw (lt-leb 26 (length d) h)
-
-  module _ (l : 26 ≤ length d) where
-    pub bad-record : false ≡ recordHead d → false ≡ isMinutiae d
-    unfolding isMinutiae
-    bad-record h = rw (le-leb 26 (length d) l, ← h)
-
-    pub by-views : true ≡ recordHead d → (b : Bool) → b ≡ fills extent 2 26 d → b ≡ isMinutiae d
-    unfolding isMinutiae
-    by-views h b f = rw (le-leb 26 (length d) l, ← h, f)

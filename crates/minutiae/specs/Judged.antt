@@ -7,7 +7,7 @@ use lib.Dec.{leb, eqb}
 use Rattle.laws.specs.Layout.{field}
 use Rattle.laws.specs.Tests.{all}
 use Rattle.laws.specs.Format.{_or_}
-use Rattle.records.specs.Fills.{fills}
+use Rattle.records.specs.Fills.{whole}
 use Rattle.minutiae.specs.Minutiae.{version, typed, quality}
 use Rattle.records.specs.declared.Extent.{Extent}
 use Rattle.records.specs.declared.Extent.the-variants.{Takes, None}
@@ -51,4 +51,4 @@ recordHead d = all (recordTests d)
 
 -- these bytes are a minutiae record
 unfoldable pub isMinutiae : List ℕ → Bool
-isMinutiae d = leb 26 (length d) && recordHead d && fills extent 2 26 d
+isMinutiae d = whole extent 26 (recordHead d) 2 d

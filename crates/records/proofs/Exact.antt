@@ -1,18 +1,19 @@
--- Where a table has the same fields so many times, `fills` is true exactly where the table is kept: once, for every such table. Assumes nothing.
+-- Where a table has the same fields so many times behind its front, `whole` is true exactly where it is laid out: once, for every such table. Assumes nothing.
 use Prim.Native.Nat.{ℕ, zero, suc, _+_}
-use mathlib.Core.Path.{_≡_}
+use mathlib.Core.Path.{_≡_, sym, _∙_}
 use mathlib.Core.Logic.{_↔_}
-use mathlib.Core.Bool.{true}
+use mathlib.Core.Bool.{Bool, true, cond}
 use mathlib.Core.List.{List}
 use lib.ListN.{length, drop}
 use lib.Dec.{eqb}
 use borrow.Author.Tests.{eq-eqb}
-use Rattle.laws.specs.Format.{Format, end, kept, times}
-use Rattle.laws.proofs.Formats.{skim, kept-if}
-use Rattle.records.specs.Fills.{fills}
+use Rattle.laws.specs.Bytes.{Bytes}
+use Rattle.laws.specs.Format.{Format, end, Laid, Agrees, kept, breaks, times}
+use Rattle.laws.proofs.Formats.{format-exact, inside, skim, skim-keeps, kept-if}
+use Rattle.records.specs.Fills.{fills, whole}
 use Rattle.records.specs.declared.Extent.{Extent}
 use Rattle.records.specs.declared.Extent.the-variants.{Takes}
-use Rattle.records.proofs.Ways.{fills-told, fills-whole}
+use Rattle.records.proofs.Ways.{fills-told, fills-whole, whole-told, by-parts}
 
 -- `extent` tells where fields of a table stand: if they take n bytes the table goes on behind these, and where the table is kept they take some
 pub record Extends (fields : Format (Unit {0}) → Format (Unit {0})) (extent : List ℕ → Extent) : Type 1 where
@@ -33,5 +34,16 @@ module _ (fields : Format (Unit {0}) → Format (Unit {0})) (extent : List ℕ �
       let g = x .given (times m fields (end tt)) at d e in
       rw (g .1) (kept-true m (at + g .0) d (g .2))
 
-  pub fills-exact : (m at : ℕ) (d : List ℕ) → (fills extent m at d ≡ true) ↔ (skim (times m fields (end tt)) at d ≡ kept)
-  fills-exact m at d = (true-kept m at d, kept-true m at d)
+  -- where a record's table is the front and then the fields so many times, the test is true exactly where the table is laid out
+  pub whole-exact : (f : Format (Unit {0})) → Agrees f → (d : List ℕ) → Bytes d → (front : ℕ) (head : Bool) (m : ℕ)
+      → skim f 0 d ≡ cond head (skim (times m fields (end tt)) front d) (breaks tt) → (whole extent front head m d ≡ true) ↔ Laid f d
+  whole-exact f a d b front head m j = (
+    λ e.
+        let t = whole-told extent front head m d e in
+        let k : skim f 0 d ≡ kept = rw (j, t .1) (true-kept m front d (t .2)) in
+        format-exact f a d b .0 (skim-keeps f 0 d .1 k),
+    λ l.
+        let k = skim-keeps f 0 d .0 (format-exact f a d b .1 l) in
+        let h = kept-if head (skim (times m fields (end tt)) front d) tt (sym j ∙ k) in
+        sym (by-parts extent front head m d (inside (times m fields (end tt)) front d (h .1)) (sym (h .0)) true (sym (kept-true m front d (h .1)))),
+  )

@@ -1,14 +1,15 @@
--- What `fills` answers on each way out of code that goes through the parts. Assumes nothing.
+-- What `fills` and `whole` answer on each way out of code that goes through the parts. Assumes nothing.
 use Prim.Native.Nat.{ℕ, zero, suc, _+_, _-_, _<_, _≤_}
 use mathlib.Core.Path.{_≡_, refl}
-use mathlib.Core.Bool.{Bool, true, false, cond, false≢true}
+use mathlib.Core.Bool.{Bool, true, false, cond, _&&_, false≢true}
 use mathlib.Core.List.{List}
 use native.Mathlib.Omega.{arith}
 use native.Mathlib.Nat.{not-suc-le-zero}
 use lib.ListN.{length, drop}
-use lib.Dec.{eqb}
-use borrow.Author.Tests.{eqb-true}
-use Rattle.records.specs.Fills.{behind, fills}
+use lib.Dec.{leb, eqb}
+use borrow.Author.Tests.{eqb-true, leb-true, le-leb, lt-leb}
+use Rattle.laws.proofs.Cases.{and-true}
+use Rattle.records.specs.Fills.{behind, fills, whole}
 use Rattle.records.specs.declared.Extent.{Extent}
 use Rattle.records.specs.declared.Extent.the-variants.{Takes, None}
 
@@ -37,7 +38,28 @@ module _ (extent : List ℕ → Extent) where
   fills-ended zero at d h = refl
   fills-ended (suc m) at d h = absurd (not-suc-le-zero h)
 
+  module _ (front : ℕ) (head : Bool) (m : ℕ) (d : List ℕ) where
+    pub no-front : length d < front → false ≡ whole extent front head m d
+    unfolding whole
+    no-front h = rw (lt-leb front (length d) h)
+
+    pub bad-front : front ≤ length d → false ≡ head → false ≡ whole extent front head m d
+    unfolding whole
+    bad-front l h = rw (le-leb front (length d) l, ← h)
+
+    pub by-parts : front ≤ length d → true ≡ head → (b : Bool) → b ≡ fills extent m front d → b ≡ whole extent front head m d
+    unfolding whole
+    by-parts l h b f = rw (le-leb front (length d) l, ← h, f)
+
   -- ---- and taken back
+
+  pub whole-told : (front : ℕ) (head : Bool) (m : ℕ) (d : List ℕ) → whole extent front head m d ≡ true
+      → (front ≤ length d) × (head ≡ true) × (fills extent m front d ≡ true)
+  unfolding whole
+  whole-told front head m d e =
+      let a = and-true (leb front (length d) && head) (fills extent m front d) e in
+      let h = and-true (leb front (length d)) head (a .0) in
+      (leb-true _ _ (h .0), h .1, a .1)
 
   pub fills-told : (m at : ℕ) (d : List ℕ) → fills extent (suc m) at d ≡ true → (n : ℕ) × (extent (drop at d) ≡ Takes n) × (fills extent m (at + n) d ≡ true)
   unfolding fills

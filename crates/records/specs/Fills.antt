@@ -1,9 +1,9 @@
 -- Parts that stand one after the other and fill the bytes, as code goes through them; proofs/Exact.antt ties it to a table.
 use Prim.Native.Nat.{ℕ, zero, suc, _+_}
-use mathlib.Core.Bool.{Bool, false}
+use mathlib.Core.Bool.{Bool, false, _&&_}
 use mathlib.Core.List.{List}
 use lib.ListN.{length, drop}
-use lib.Dec.{eqb}
+use lib.Dec.{leb, eqb}
 use Rattle.records.specs.declared.Extent.{Extent}
 use Rattle.records.specs.declared.Extent.the-variants.{Takes, None}
 
@@ -16,3 +16,7 @@ behind None f = false
 unfoldable pub fills : (List ℕ → Extent) → ℕ → ℕ → List ℕ → Bool
 fills extent zero at d = eqb at (length d)
 fills extent (suc m) at d = behind (extent (drop at d)) (λ n. fills extent m (at + n) d)
+
+-- a record: it has the bytes of its front, these are as they should be, and behind them stand so many parts and nothing more
+unfoldable pub whole : (List ℕ → Extent) → ℕ → Bool → ℕ → List ℕ → Bool
+whole extent front head m d = leb front (length d) && head && fills extent m front d

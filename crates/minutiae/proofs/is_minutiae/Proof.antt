@@ -4,16 +4,15 @@ use mathlib.Core.Path.{_≡_, sym, _∙_}
 use mathlib.Core.Bool.{true, false}
 use lib.Dec.{eqb}
 use Rattle.records.specs.Fills.{fills}
-use Rattle.records.proofs.Ways.{fills-next, fills-not, fills-ended}
+use Rattle.records.proofs.Ways.{fills-next, fills-not, fills-ended, no-front, bad-front, by-parts}
 use mathlib.Core.List.{List}
 use native.Mathlib.Omega.{arith}
 use borrow.Author.Needs.{needs}
 use borrow.Author.Tests.{not-true, not-false}
 use lib.ListN.{length, drop}
 use Rattle.laws.proofs.Turns.{rest}
-use Rattle.minutiae.specs.Judged.{recordHead, extent}
+use Rattle.minutiae.specs.Judged.{recordHead, extent, isMinutiae}
 use Rattle.records.specs.declared.Extent.the-variants.{Takes}
-use Rattle.minutiae.proofs.Ways.{no-room, bad-record, by-views}
 use Rattle.minutiae.proofs.Tested.{view-inside}
 use Rattle.minutiae.proofs.is_minutiae.Statement.{statement}
 use Rattle.minutiae.proofs.is_minutiae.Tie as tie
@@ -47,6 +46,14 @@ second c = sym (c .before .two .given .1) ∙ rw rest at (c .before .before .bef
 second-inside : (c : tie.After-known-told2) → two c ≤ length (bytes (earlier c)) - (26 + one (earlier c))
 second-inside c = view-inside (26 + one (earlier c)) (bytes (earlier c)) (second c)
 
+returns : tie.Need-returns
+unfolding isMinutiae
+returns c = no-front extent 26 _ 2 _ (c .if1 .taken)
+
+returns-2 : tie.Need-returns-2
+unfolding isMinutiae
+returns-2 c = bad-front extent 26 _ 2 _ (omega arith) (sym (not-true _ (c .if2 .taken)) ∙ c .before .record-head .ensures)
+
 -- what is left to say behind the second view
 ends : (c : tie.After-known-told2) → eqb (26 + one (earlier c) + two c) (length (bytes (earlier c))) ≡ fills extent 2 26 (bytes (earlier c))
 ends c =
@@ -55,27 +62,30 @@ ends c =
     ∙ fills-next extent 2 26 (bytes (earlier c)) (omega arith) (first (earlier c))
 
 returns-3 : tie.Need-returns-3
+unfolding isMinutiae
 returns-3 c =
-    by-views _ (omega arith) (head (c .before .before .before .before)) false
+    by-parts extent 26 _ 2 _ (omega arith) (head (c .before .before .before .before)) false
     (fills-not extent 2 26 _ (omega arith) (sym (c .enum-told .given .1) ∙ rw rest at (c .before .before .view .ensures)))
 
 returns-4 : tie.Need-returns-4
+unfolding isMinutiae
 returns-4 c =
     let k = c .before .before .before .before in
-    by-views _ (omega arith) (head (k .before .before .before .before .before)) false
+    by-parts extent 26 _ 2 _ (omega arith) (head (k .before .before .before .before .before)) false
     (fills-not extent 1 (26 + one k) (bytes k) (omega arith) (sym (c .enum-told2 .given .1) ∙ rw rest at (c .before .before .view2 .ensures))
     ∙ fills-next extent 2 26 (bytes k) (omega arith) (first k))
 
 returns-5 : tie.Need-returns-5
-returns-5 c = by-views _ (omega arith) (head (earlier c .before .before .before .before .before)) _ (ends c)
+unfolding isMinutiae
+returns-5 c = by-parts extent 26 _ 2 _ (omega arith) (head (earlier c .before .before .before .before .before)) _ (ends c)
 
 pub is-minutiae-spec : {M : Type 1} → statement M
 is-minutiae-spec =
     tie.close
     (tie.spec
-    (λ c. no-room _ (c .if1 .taken))
+    returns
     (λ c κs. search needs)
-    (λ c. bad-record _ (omega arith) (sym (not-true _ (c .if2 .taken)) ∙ c .before .record-head .ensures))
+    returns-2
     (λ c. search needs)
     (λ c. search needs)
     (λ c. search needs)
