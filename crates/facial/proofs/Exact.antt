@@ -1,8 +1,8 @@
 -- The tested form is true exactly where the record's table is laid out. Assumes nothing.
 use Prim.Native.Nat.{ℕ, _+_, _-_, _*_, _≤_}
-use mathlib.Core.Path.{_≡_, sym, ap, _∙_}
+use mathlib.Core.Path.{_≡_, sym, ap}
 use mathlib.Core.Logic.{_↔_}
-use mathlib.Core.Bool.{true, cond, _&&_}
+use mathlib.Core.Bool.{Bool, true, cond, _&&_}
 use mathlib.Core.List.{List}
 use native.Mathlib.Omega.{arith}
 use native.Mathlib.Nat.{add-zero}
@@ -12,9 +12,9 @@ use lib.Dec.{leb}
 use borrow.Author.Tests.{le-leb, leb-true}
 use Rattle.laws.specs.Bytes.{Bytes}
 use Rattle.laws.specs.Layout.{field}
-use Rattle.laws.specs.Format.{Format, end, kept, breaks, free, times}
-use Rattle.laws.proofs.Cases.{and-true}
-use Rattle.laws.proofs.Formats.{inside, skim, cond-and, kept-if}
+use Rattle.laws.specs.Format.{Format, end, breaks, free, times}
+use Rattle.laws.proofs.Cases.{and-true, and-is}
+use Rattle.laws.proofs.Formats.{skim, cond-and}
 use Rattle.records.specs.declared.Extent.the-variants.{Takes}
 use Rattle.records.proofs.Exact.{Extends, whole-exact}
 use Rattle.facial.specs.Facial.{information, block, facial, IsFacial}
@@ -33,54 +33,49 @@ information-judged k at d =
     let f : at + 8 + 4 ≡ at + 12 = omega arith in
     simp (a, b, c, e, f, drop-drop, add-zero, cond-and)
 
--- what a block says of itself: how many bytes it has, and how many feature points
-abbrev size : ℕ → List ℕ → ℕ
-size at d = field d at 4
+-- what a block at an offset says of itself: how many bytes it has, and how many feature points
+abbrev said : ℕ → List ℕ → ℕ
+said at d = field d at 4
 
 abbrev points : ℕ → List ℕ → ℕ
 points at d = field d (at + 4) 2
 
-block-judged : (k : Format (Unit {0})) (at : ℕ) (d : List ℕ)
-    → skim (block k) at d
-    ≡ cond (leb (32 + 8 * points at d) (size at d) && informed (drop (at + (20 + 8 * points at d)) d))
-    (skim k (at + (20 + 8 * points at d) + 12 + (size at d - (32 + 8 * points at d))) d)
-    (breaks tt)
+-- its fields and its pixels: where it has room for its points, as many bytes as it says
+abbrev size : ℕ → List ℕ → ℕ
+size at d = 32 + 8 * points at d + (said at d - (32 + 8 * points at d))
+
+abbrev blocked : ℕ → List ℕ → Bool
+blocked at d = leb (32 + 8 * points at d) (said at d) && informed (drop (at + (20 + 8 * points at d)) d)
+
+block-judged : (k : Format (Unit {0})) (at : ℕ) (d : List ℕ) → skim (block k) at d ≡ cond (blocked at d) (skim k (at + size at d) d) (breaks tt)
 block-judged k at d =
-    let a : at + 4 + 2 + 14 + 8 * points at d ≡ at + (20 + 8 * points at d) = omega arith in
-    simp (a, cond-and)
-    (ap (λ j. cond (leb (32 + 8 * points at d) (size at d)) j (breaks tt))
-    (information-judged (free (size at d - (32 + 8 * points at d)) k) (at + (20 + 8 * points at d)) d))
-
--- a block that is taken, in the table's terms
-taken : (k : Format (Unit {0})) (at : ℕ) (d : List ℕ) (n : ℕ) → extent (drop at d) ≡ Takes n → skim k (at + n) d ≡ kept → skim (block k) at d ≡ kept
-taken k at d n e r =
-    let t = block-told (drop at d) e in
-    let q : field (drop at d) 0 4 ≡ size at d = simp (drop-drop, add-zero) in
-    let p : field (drop at d) 4 2 ≡ points at d = simp drop-drop in
-    let room : 32 + 8 * points at d ≤ size at d = omega (arith, rw p at (t .room), rw q at (t .size)) in
-    let image : informed (drop (at + (20 + 8 * points at d)) d) ≡ true = rw (p, drop-drop) at (t .image) in
-    let w : at + (20 + 8 * points at d) + 12 + (size at d - (32 + 8 * points at d)) ≡ at + n = omega (arith, rw q at (t .size)) in
-    rw (block-judged k at d, le-leb _ _ room, image, w, r)
-
--- and back
-given : (k : Format (Unit {0})) (at : ℕ) (d : List ℕ) → skim (block k) at d ≡ kept
-    → (n : ℕ) × (extent (drop at d) ≡ Takes n) × (skim k (at + n) d ≡ kept)
-given k at d e =
-    let n : ℕ = size at d in
-    let p : ℕ = points at d in
-    let j = kept-if (leb (32 + 8 * p) n && informed (drop (at + (20 + 8 * p)) d)) (skim k (at + (20 + 8 * p) + 12 + (n - (32 + 8 * p))) d) tt (sym (block-judged k at d) ∙ e) in
-    let b = and-true (leb (32 + 8 * p) n) _ (j .0) in
-    let room : 32 + 8 * p ≤ n = leb-true _ _ (b .0) in
-    let i = inside k (at + (20 + 8 * p) + 12 + (n - (32 + 8 * p))) d (j .1) in
-    let w : at + (20 + 8 * p) + 12 + (n - (32 + 8 * p)) ≡ at + n = omega arith in
-    let l : n ≤ length (drop at d) = rw length-drop (omega arith) in
-    let q : n ≡ field (drop at d) 0 4 = simp (drop-drop, add-zero) in
-    let c : p ≡ field (drop at d) 4 2 = simp drop-drop in
-    let image : true ≡ informed (drop (20 + 8 * p) (drop at d)) = rw drop-drop (sym (b .1)) in
-    (n, sym (takes (drop at d) (omega arith) n p q c room l image), rw w at (j .1))
+    let p : ℕ = 8 * points at d in
+    let a : at + 4 + 2 + 14 + p ≡ at + (20 + p) = omega arith in
+    let w : at + (32 + p + (said at d - (32 + p))) ≡ at + (20 + p) + 12 + (said at d - (32 + p)) = omega arith in
+    simp (a, w, cond-and)
+    (ap (λ j. cond (leb (32 + p) (said at d)) j (breaks tt)) (information-judged (free (said at d - (32 + p)) k) (at + (20 + p)) d))
 
 blocks : Extends block extent
-blocks = record { taken = taken; given = given }
+blocks = record { test = blocked; size = size; judged = block-judged; told = told; tells = tells }
+  where
+    told : (at : ℕ) (d : List ℕ) (n : ℕ) → extent (drop at d) ≡ Takes n → (blocked at d ≡ true) × (n ≡ size at d)
+    told at d n e =
+        let t = block-told (drop at d) e in
+        let q : field (drop at d) 0 4 ≡ said at d = simp (drop-drop, add-zero) in
+        let p : field (drop at d) 4 2 ≡ points at d = simp drop-drop in
+        let s : n ≡ said at d = rw q at (t .size) in
+        let room : 32 + 8 * points at d ≤ n = rw p at (t .room) in
+        (and-is _ _ (le-leb _ _ (rw s at room)) (rw (p, drop-drop) at (t .image)), omega arith)
+
+    tells : (at : ℕ) (d : List ℕ) → blocked at d ≡ true → at + size at d ≤ length d → extent (drop at d) ≡ Takes (size at d)
+    tells at d e i =
+        let b = and-true (leb (32 + 8 * points at d) (said at d)) _ e in
+        let room : 32 + 8 * points at d ≤ said at d = leb-true _ _ (b .0) in
+        let s : size at d ≡ said at d = omega arith in
+        let l : said at d ≤ length (drop at d) = rw length-drop (omega arith) in
+        let q : said at d ≡ field (drop at d) 0 4 = simp (drop-drop, add-zero) in
+        let p : points at d ≡ field (drop at d) 4 2 = simp drop-drop in
+        rw s (sym (takes (drop at d) (omega arith) (said at d) (points at d) q p room l (rw drop-drop (sym (b .1)))))
 
 record-judged : (d : List ℕ) → skim (facial (length d)) 0 d ≡ cond (recordHead (field d 12 2) d) (skim (times (field d 12 2) block (end tt)) 14 d) (breaks tt)
 unfolding recordHead

@@ -1,6 +1,6 @@
 -- The tested form is true exactly where the record's table is laid out. Assumes nothing.
 use Prim.Native.Nat.{ℕ, zero, suc, _+_, _*_, _≤_}
-use mathlib.Core.Path.{_≡_, sym, _∙_}
+use mathlib.Core.Path.{_≡_, sym}
 use mathlib.Core.Logic.{_↔_}
 use mathlib.Core.Bool.{Bool, true, cond, _&&_}
 use mathlib.Core.List.{List}
@@ -12,9 +12,9 @@ use lib.Dec.{leb, eqb, leb·zero}
 use borrow.Author.Tests.{le-leb, leb-true, eq-eqb, eqb-true}
 use Rattle.laws.specs.Bytes.{Bytes}
 use Rattle.laws.specs.Layout.{field}
-use Rattle.laws.specs.Format.{Format, end, kept, breaks, times}
+use Rattle.laws.specs.Format.{Format, end, breaks, times}
 use Rattle.laws.proofs.Cases.{and-true}
-use Rattle.laws.proofs.Formats.{inside, skim, cond-and, kept-if}
+use Rattle.laws.proofs.Formats.{skim, cond-and}
 use Rattle.minutiae.specs.Minutiae.{point, view, minutiae, IsMinutiae}
 use Rattle.minutiae.specs.Judged.{pointHolds, pointsHold, viewHead, extent, recordHead, isMinutiae}
 use Rattle.records.specs.declared.Extent.the-variants.{Takes}
@@ -39,57 +39,44 @@ count at d = field d (at + 3) 1
 
 abbrev viewed : ℕ → List ℕ → Bool
 viewed at d =
-    viewHead (drop at d) && (leb (count at d) 128 && (pointsHold (count at d) (drop (at + 4) d) && eqb (field d (at + 4 + 6 * count at d) 2) 0))
+    viewHead (drop at d) && (leb (count at d) 128 && (pointsHold (count at d) (drop (at + 4) d) && eqb (field d (at + (4 + 6 * count at d)) 2) 0))
 
 view-judged : (k : Format (Unit {0})) (at : ℕ) (d : List ℕ)
-    → skim (view k) at d ≡ cond (viewed at d) (skim k (at + 4 + 6 * count at d + 2) d) (breaks tt)
+    → skim (view k) at d ≡ cond (viewed at d) (skim k (at + (6 + 6 * count at d)) d) (breaks tt)
 unfolding viewHead
 view-judged k at d =
     let a : at + 1 + 1 ≡ at + 2 = omega arith in
     let b : at + 2 + 1 ≡ at + 3 = omega arith in
     let c : at + 3 + 1 ≡ at + 4 = omega arith in
-    simp (a, b, c, points-judged, drop-drop, add-zero, leb·zero, cond-and)
+    let g : at + 4 + 6 * count at d ≡ at + (4 + 6 * count at d) = omega arith in
+    let w : at + (6 + 6 * count at d) ≡ at + (4 + 6 * count at d) + 2 = omega arith in
+    simp (a, b, c, g, w, points-judged, drop-drop, add-zero, leb·zero, cond-and)
+
+views : Extends view extent
+views = record { test = viewed; size = λ at d. 6 + 6 * count at d; judged = view-judged; told = told; tells = tells }
+  where
+    told : (at : ℕ) (d : List ℕ) (n : ℕ) → extent (drop at d) ≡ Takes n → (viewed at d ≡ true) × (n ≡ 6 + 6 * count at d)
+    told at d n e =
+        let t = view-told (drop at d) e in
+        let c : field (drop at d) 3 1 ≡ count at d = simp drop-drop in
+        let points : pointsHold (count at d) (drop (at + 4) d) ≡ true = simp drop-drop at (t .points) in
+        let zeros : field d (at + (4 + 6 * count at d)) 2 ≡ 0 = simp drop-drop at (rw c at (t .zeros)) in
+        (rw (t .head, le-leb _ _ (rw c at (t .few)), points, eq-eqb _ _ zeros), rw c at (t .size))
+
+    tells : (at : ℕ) (d : List ℕ) → viewed at d ≡ true → at + (6 + 6 * count at d) ≤ length d → extent (drop at d) ≡ Takes (6 + 6 * count at d)
+    tells at d e i =
+        let m : ℕ = count at d in
+        let a = and-true (viewHead (drop at d)) _ e in
+        let b = and-true (leb m 128) _ (a .1) in
+        let p = and-true (pointsHold m (drop (at + 4) d)) _ (b .1) in
+        let c : m ≡ field (drop at d) 3 1 = simp drop-drop in
+        let l : 6 + 6 * m ≤ length (drop at d) = rw length-drop (omega arith) in
+        let zeros : field (drop at d) (4 + 6 * m) 2 ≡ 0 = simp drop-drop (eqb-true _ _ (p .1)) in
+        sym (takes (drop at d) (omega arith) (sym (a .0)) m c (leb-true m 128 (b .0)) l (rw drop-drop (sym (p .0))) zeros)
 
 record-judged : (d : List ℕ) → skim (minutiae (length d)) 0 d ≡ cond (recordHead d) (skim (times 2 view (end tt)) 26 d) (breaks tt)
 unfolding recordHead
 record-judged d = simp cond-and
-
--- a view that is taken, in the table's terms
-taken : (k : Format (Unit {0})) (at : ℕ) (d : List ℕ) (n : ℕ) → extent (drop at d) ≡ Takes n → skim k (at + n) d ≡ kept → skim (view k) at d ≡ kept
-taken k at d n e r =
-    let t = view-told (drop at d) e in
-    let m : ℕ = count at d in
-    let c : field (drop at d) 3 1 ≡ m = simp drop-drop in
-    let few : m ≤ 128 = rw c at (t .few) in
-    let points : pointsHold m (drop (at + 4) d) ≡ true = simp drop-drop at (t .points) in
-    let z : field (drop at d) (4 + 6 * m) 2 ≡ 0 = rw c at (t .zeros) in
-    let g : at + 4 + 6 * m ≡ at + (4 + 6 * m) = omega arith in
-    let zeros : field d (at + 4 + 6 * m) 2 ≡ 0 = rw g (simp drop-drop at z) in
-    let w : at + 4 + 6 * m + 2 ≡ at + n = omega (arith, rw c at (t .size)) in
-    rw (view-judged k at d, t .head, le-leb m 128 few, points, eq-eqb _ _ zeros, w, r)
-
--- and back
-given : (k : Format (Unit {0})) (at : ℕ) (d : List ℕ) → skim (view k) at d ≡ kept
-    → (n : ℕ) × (extent (drop at d) ≡ Takes n) × (skim k (at + n) d ≡ kept)
-given k at d e =
-    let m : ℕ = count at d in
-    let j = kept-if (viewed at d) (skim k (at + 4 + 6 * m + 2) d) tt (sym (view-judged k at d) ∙ e) in
-    let a = and-true (viewHead (drop at d)) _ (j .0) in
-    let b = and-true (leb m 128) _ (a .1) in
-    let p = and-true (pointsHold m (drop (at + 4) d)) _ (b .1) in
-    let i = inside k (at + 4 + 6 * m + 2) d (j .1) in
-    let few : m ≤ 128 = leb-true m 128 (b .0) in
-    let c : m ≡ field (drop at d) 3 1 = simp drop-drop in
-    let l : 6 + 6 * m ≤ length (drop at d) = rw length-drop (omega arith) in
-    let y : field d (at + 4 + 6 * m) 2 ≡ 0 = eqb-true _ _ (p .1) in
-    let g : at + 4 + 6 * m ≡ at + (4 + 6 * m) = omega arith in
-    let w : at + 4 + 6 * m + 2 ≡ at + (6 + 6 * m) = omega arith in
-    let zeros : field (drop at d) (4 + 6 * m) 2 ≡ 0 = simp drop-drop (rw g at y) in
-    let points : true ≡ pointsHold m (drop 4 (drop at d)) = rw drop-drop (sym (p .0)) in
-    (6 + 6 * m, sym (takes (drop at d) (omega arith) (sym (a .0)) m c few l points zeros), rw w at (j .1))
-
-views : Extends view extent
-views = record { taken = taken; given = given }
 
 -- the test says that these bytes are a minutiae record exactly when they are one
 pub minutiae-exact : (d : List ℕ) → Bytes d → (isMinutiae d ≡ true) ↔ IsMinutiae d

@@ -1,5 +1,5 @@
 -- Where a table has the same fields so many times behind its front, `whole` is true exactly where it is laid out: once, for every such table. Assumes nothing.
-use Prim.Native.Nat.{ℕ, zero, suc, _+_}
+use Prim.Native.Nat.{ℕ, zero, suc, _+_, _≤_}
 use mathlib.Core.Path.{_≡_, sym, _∙_}
 use mathlib.Core.Logic.{_↔_}
 use mathlib.Core.Bool.{Bool, true, cond}
@@ -15,24 +15,30 @@ use Rattle.records.specs.declared.Extent.{Extent}
 use Rattle.records.specs.declared.Extent.the-variants.{Takes}
 use Rattle.records.proofs.Ways.{fills-told, fills-whole, whole-told, by-parts}
 
--- `extent` tells where fields of a table stand: if they take n bytes the table goes on behind these, and where the table is kept they take some
+-- what `extent` has to do with fields of a table: these are kept where a test of the bytes from an offset on is true, and then take so many bytes, behind
+-- which the table goes on; and `extent` tells that number where the test is true and the bytes are there
 pub record Extends (fields : Format (Unit {0}) → Format (Unit {0})) (extent : List ℕ → Extent) : Type 1 where
-  pub taken : (k : Format (Unit {0})) (at : ℕ) (d : List ℕ) (n : ℕ) → extent (drop at d) ≡ Takes n → skim k (at + n) d ≡ kept → skim (fields k) at d ≡ kept
-  pub given : (k : Format (Unit {0})) (at : ℕ) (d : List ℕ) → skim (fields k) at d ≡ kept → (n : ℕ) × (extent (drop at d) ≡ Takes n) × (skim k (at + n) d ≡ kept)
+  pub test : ℕ → List ℕ → Bool
+  pub size : ℕ → List ℕ → ℕ
+  pub judged : (k : Format (Unit {0})) (at : ℕ) (d : List ℕ) → skim (fields k) at d ≡ cond (test at d) (skim k (at + size at d) d) (breaks tt)
+  pub told : (at : ℕ) (d : List ℕ) (n : ℕ) → extent (drop at d) ≡ Takes n → (test at d ≡ true) × (n ≡ size at d)
+  pub tells : (at : ℕ) (d : List ℕ) → test at d ≡ true → at + size at d ≤ length d → extent (drop at d) ≡ Takes (size at d)
 
 module _ (fields : Format (Unit {0}) → Format (Unit {0})) (extent : List ℕ → Extent) (x : Extends fields extent) where
   true-kept : (m at : ℕ) (d : List ℕ) → fills extent m at d ≡ true → skim (times m fields (end tt)) at d ≡ kept
   true-kept zero at d e = rw (eq-eqb _ _ (fills-whole extent at d e))
   true-kept (suc m) at d e =
-      let t = fills-told extent m at d e in
-      x .taken (times m fields (end tt)) at d (t .0) (t .1) (true-kept m (at + t .0) d (t .2))
+      let f = fills-told extent m at d e in
+      let t = x .told at d (f .0) (f .1) in
+      rw (x .judged (times m fields (end tt)) at d, t .0, ← t .1) (true-kept m (at + f .0) d (f .2))
 
   kept-true : (m at : ℕ) (d : List ℕ) → skim (times m fields (end tt)) at d ≡ kept → fills extent m at d ≡ true
   unfolding fills
   kept-true zero at d e = kept-if (eqb at (length d)) kept tt e .0
   kept-true (suc m) at d e =
-      let g = x .given (times m fields (end tt)) at d e in
-      rw (g .1) (kept-true m (at + g .0) d (g .2))
+      let r = times m fields (end tt) in
+      let j = kept-if (x .test at d) (skim r (at + x .size at d) d) tt (sym (x .judged r at d) ∙ e) in
+      rw (x .tells at d (j .0) (inside r (at + x .size at d) d (j .1))) (kept-true m (at + x .size at d) d (j .1))
 
   -- where a record's table is the front and then the fields so many times, the test is true exactly where the table is laid out
   pub whole-exact : (f : Format (Unit {0})) → Agrees f → (d : List ℕ) → Bytes d → (front : ℕ) (head : Bool) (m : ℕ)

@@ -2,17 +2,17 @@
 use Prim.Native.Nat.{ℕ, _+_, _-_, _≤_}
 use mathlib.Core.Path.{_≡_, sym, _∙_}
 use mathlib.Core.Bool.{true, false}
-use lib.Dec.{eqb}
-use Rattle.records.specs.Fills.{fills}
-use Rattle.records.proofs.Ways.{fills-next, fills-not, fills-ended, no-front, bad-front, by-parts}
 use mathlib.Core.List.{List}
 use native.Mathlib.Omega.{arith}
 use borrow.Author.Needs.{needs}
 use borrow.Author.Tests.{not-true, not-false}
 use lib.ListN.{length, drop}
+use lib.Dec.{eqb}
 use Rattle.laws.proofs.Turns.{rest}
-use Rattle.minutiae.specs.Judged.{recordHead, extent, isMinutiae}
+use Rattle.records.specs.Fills.{fills}
 use Rattle.records.specs.declared.Extent.the-variants.{Takes}
+use Rattle.records.proofs.Ways.{fills-next, fills-not, fills-ended, no-front, bad-front, by-parts}
+use Rattle.minutiae.specs.Judged.{recordHead, extent, isMinutiae}
 use Rattle.minutiae.proofs.Tested.{view-inside}
 use Rattle.minutiae.proofs.is_minutiae.Statement.{statement}
 use Rattle.minutiae.proofs.is_minutiae.Tie as tie
