@@ -20,10 +20,11 @@ use Rattle.plain.proofs.Exact.{quality-exact}
 use Rattle.plain.proofs.Creators.{creator-exact}
 use Rattle.minutiae.proofs.Exact.{minutiae-exact}
 use Rattle.facial.proofs.Exact.{facial-exact}
+use Rattle.iris.proofs.Exact.{iris-exact}
 use Rattle.cbeff.specs.Header.{signatureLength, moment, notBefore, topBits, quality, creator, fascn, data-part, header}
 use Rattle.cbeff.specs.declared.Biometric.{Biometric}
 use Rattle.cbeff.specs.declared.Body.{Body}
-use Rattle.cbeff.specs.declared.Body.the-variants.{Minutiae, Facial}
+use Rattle.cbeff.specs.declared.Body.the-variants.{Minutiae, Facial, Iris}
 
 signature-length-agrees : (size d s : ℕ) → s < 256 ^ 2 → (signatureLength size d .test s ≡ true) ↔ signatureLength size d .says s
 signature-length-agrees size d s h = (
@@ -59,6 +60,7 @@ fascn-agrees v b l = fascn-exact v b
 data-agrees : (body : Body) (d : ℕ) (v : List ℕ) → Bytes v → length v ≡ d → (data-part body .test v ≡ true) ↔ data-part body .says v
 data-agrees Minutiae d v b l = minutiae-exact v b
 data-agrees Facial d v b l = facial-exact v b
+data-agrees Iris d v b l = iris-exact v b
 
 pub header-agrees : (b : Biometric) (size : ℕ) → Agrees (header b size)
 header-agrees b size =
@@ -67,7 +69,7 @@ header-agrees b size =
       λ d _. (
         signature-length-agrees size d,
         λ s _.
-            is-agrees 2 0x001B next is-agrees 2 (b .format) next moment-agrees next (
+            is-agrees 2 (b .owner) next is-agrees 2 (b .format) next moment-agrees next (
               moment-agrees,
               λ from k.
                   not-before-agrees from (k .0) (k .1) next is-agrees 3 (b .sort) next top-bits-agree (b .top) next quality-agrees (b .missing) next creator-agrees

@@ -13,25 +13,19 @@ use Rattle.verdicts.specs.declared.Fault.{Fault}
 use Rattle.verdicts.specs.declared.Fault.the-variants.{BadHeader, BadFascn}
 use Rattle.fascn.specs.Fascn.{IsFascn}
 use Rattle.fascn.proofs.Codec.{fascn-exact}
-use Rattle.cbeff.specs.Header.{fingers, face, header, IsBiometric}
+use Rattle.cbeff.specs.Header.{header, IsBiometric}
 use Rattle.cbeff.specs.Judged.{opens}
 use Rattle.cbeff.specs.declared.Biometric.{Biometric}
 use Rattle.cbeff.proofs.Agreed.{header-agrees}
 use Rattle.cbeff.proofs.Told.{after, header-told}
 
--- of any format, and of the two that there are
+-- of any format
 pub biometric-exact : (b : Biometric) → (v : List ℕ) → Bytes v → (judge (header b (length v)) 0 v ≡ kept) ↔ IsBiometric b v
 biometric-exact b v h = format-exact (header b (length v)) (header-agrees b (length v)) v h
 
 -- and it names the first rule that a value breaks
 pub first-broken-exact : (b : Biometric) (v : List ℕ) → Bytes v → (f : Fault) → (judge (header b (length v)) 0 v ≡ breaks f) ↔ FirstBroken (header b (length v)) v f
 first-broken-exact b v h f = first-exact (header b (length v)) (header-agrees b (length v)) v h f
-
-pub fingers-exact : (v : List ℕ) → Bytes v → (judge (header fingers (length v)) 0 v ≡ kept) ↔ IsBiometric fingers v
-fingers-exact v h = biometric-exact fingers v h
-
-pub face-exact : (v : List ℕ) → Bytes v → (judge (header face (length v)) 0 v ≡ kept) ↔ IsBiometric face v
-face-exact v h = biometric-exact face v h
 
 -- a value has the header's 88 bytes, at least one of data and at least one of signature
 pub least : (b : Biometric) (v : List ℕ) → IsBiometric b v → 90 ≤ length v

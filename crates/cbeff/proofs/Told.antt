@@ -24,9 +24,9 @@ use Rattle.cbeff.specs.Judged.{sizeTests, sizesHold, datesHold, formHold
 use Rattle.cbeff.specs.declared.Biometric.{Biometric}
 
 -- what the sizes say where they hold: d and s are not zero, and the length is as they make it
-pub sizes-told : (format d : ℕ) (v : List ℕ) → sizesHold format d v ≡ true → (1 ≤ d) × (1 ≤ field v 6 2) × (88 + d + field v 6 2 ≡ length v)
+pub sizes-told : (b : Biometric) (d : ℕ) (v : List ℕ) → sizesHold b d v ≡ true → (1 ≤ d) × (1 ≤ field v 6 2) × (88 + d + field v 6 2 ≡ length v)
 unfolding sizesHold
-sizes-told format d v e = let t = all-true (sizeTests format d v) e in (leb-true _ _ (t 2), leb-true _ _ (t 3), eqb-true _ _ (t 4))
+sizes-told b d v e = let t = all-true (sizeTests b d v) e in (leb-true _ _ (t 2), leb-true _ _ (t 3), eqb-true _ _ (t 4))
 
 -- what follows the fields before the FASC-N, in the table's terms
 abbrev pub after : Biometric → List ℕ → Judged Fault
@@ -63,8 +63,8 @@ short-told b v l =
 size-of : (b : Biometric) (v : List ℕ) → opens b v ≡ true → 88 + field v 2 4 + field v 6 2 ≡ length v
 size-of b v o =
     let d : ℕ = field v 2 4 in
-    let s = and-true (sizesHold (b .format) d v) (datesHold v) (and-true (sizesHold (b .format) d v && datesHold v) (formHolds b v) o .0) .0 in
-    sizes-told (b .format) d v s .2
+    let s = and-true (sizesHold b d v) (datesHold v) (and-true (sizesHold b d v && datesHold v) (formHolds b v) o .0) .0 in
+    sizes-told b d v s .2
 
 -- what follows them, in the code's answer
 ends : (x : Fault) (f r d : Bool)

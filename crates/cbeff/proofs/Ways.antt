@@ -44,11 +44,11 @@ module _ (b : Biometric) (v : List ℕ) where
   too-short h = rw (lt-leb 88 (length v) h)
 
   module _ (l : 88 ≤ length v) (d : ℕ) (e : d ≡ field v 2 4) where
-    pub bad-sizes : false ≡ sizesHold (b .format) d v → Breaks BadHeader ≡ judged b v
+    pub bad-sizes : false ≡ sizesHold b d v → Breaks BadHeader ≡ judged b v
     unfolding judged
     bad-sizes h = rw (le-leb 88 (length v) l, ← e, ← h)
 
-    module _ (s : true ≡ sizesHold (b .format) d v) where
+    module _ (s : true ≡ sizesHold b d v) where
       pub bad-dates : false ≡ datesHold v → Breaks BadHeader ≡ judged b v
       unfolding judged
       bad-dates h = rw (le-leb 88 (length v) l, ← e, ← s, ← h)

@@ -8,7 +8,7 @@ use lib.ListN.{length}
 use Rattle.laws.specs.Digits.{value}
 use Rattle.laws.specs.Format.{Rule, Format, end, num, raw, Laid, is, atLeast, anything}
 use Rattle.verdicts.specs.declared.Fault.{Fault}
-use Rattle.verdicts.specs.declared.Fault.the-variants.{BadHeader, BadFascn, BadMinutiae, BadFace}
+use Rattle.verdicts.specs.declared.Fault.the-variants.{BadHeader, BadFascn, BadMinutiae, BadFace, BadIris}
 use Rattle.fascn.specs.Fascn.{IsFascn}
 use Rattle.fascn.specs.Reading.{isFascn}
 use Rattle.dates.specs.Moment.{IsMoment, isMoment, NotAfter}
@@ -18,18 +18,25 @@ use Rattle.minutiae.specs.Minutiae.{IsMinutiae}
 use Rattle.minutiae.specs.Judged.{isMinutiae}
 use Rattle.facial.specs.Facial.{IsFacial}
 use Rattle.facial.specs.Judged.{isFacial}
+use Rattle.iris.specs.Iris.{IsIris}
+use Rattle.iris.specs.Judged.{isIris}
 use Rattle.cbeff.specs.declared.Biometric.{Biometric}
 use Rattle.cbeff.specs.declared.Body.{Body}
-use Rattle.cbeff.specs.declared.Body.the-variants.{Minutiae, Facial}
+use Rattle.cbeff.specs.declared.Body.the-variants.{Minutiae, Facial, Iris}
 
--- ---- what differs: "format 0201 fingers or 0501 face", "type 000008 fingers or 000002 face", "data type, top three bits 100 fingers or 001 face",
--- whether a quality of -1 is known (document 004: in fingers, not in face), what the data are, and the fault of data that are no such record
+-- ---- what differs: "owner 001B", "format 0201 fingers or 0501 face", "type 000008 fingers or 000002 face", "data type, top three bits 100 fingers or
+-- 001 face", whether a quality of -1 is known (document 004: in fingers and iris, not in face), what the data are, and the fault of data that are no such
+-- record
 
 abbrev pub fingers : Biometric
-fingers = record { format = 0x0201; sort = 0x000008; top = 4; missing = true; body = Minutiae; broken = BadMinutiae }
+fingers = record { owner = 0x001B; format = 0x0201; sort = 0x000008; top = 4; missing = true; body = Minutiae; broken = BadMinutiae }
 
 abbrev pub face : Biometric
-face = record { format = 0x0501; sort = 0x000002; top = 1; missing = false; body = Facial; broken = BadFace }
+face = record { owner = 0x001B; format = 0x0501; sort = 0x000002; top = 1; missing = false; body = Facial; broken = BadFace }
+
+-- 2026-06: "Its CBEFF header is judged by document 004, section 9.3": owner "0x0101", format "0x0009", type "0x000010", data type "b010xxxxx"
+abbrev pub iris : Biometric
+iris = record { owner = 0x0101; format = 0x0009; sort = 0x000010; top = 2; missing = true; body = Iris; broken = BadIris }
 
 -- ---- the rules of the fields
 
@@ -57,12 +64,13 @@ creator = record { says = IsCreator; test = isCreator }
 abbrev pub fascn : Rule (List ℕ)
 fascn = record { says = IsFascn; test = isFascn }
 
--- "Minutiae (the d bytes, kind 6)"; 2026-05: "Check the face record's header and its image information"
+-- "Minutiae (the d bytes, kind 6)"; 2026-05: "Check the face record's header and its image information"; 2026-06: the iris "record by section 9.7"
 abbrev pub data-part : Body → Rule (List ℕ)
 data-part Minutiae = record { says = IsMinutiae; test = isMinutiae }
 data-part Facial = record { says = IsFacial; test = isFacial }
+data-part Iris = record { says = IsIris; test = isIris }
 
--- ---- the table of a value of so many bytes: 21 at every field but the FASC-N, 17 there, and 22 or 26 for the data, "after 21 and 17 of the same element"
+-- ---- the table of a value of so many bytes: 21 at every field but the FASC-N, 17 there, and 22, 26 or 27 for the data, "after 21 and 17 of the same element"
 
 abbrev pub one : ℕ → Rule ℕ → Format Fault → Format Fault
 one w p k = num w p BadHeader (λ n. k)
@@ -74,9 +82,9 @@ abbrev pub header : Biometric → ℕ → Format Fault
 header b size =
     one 1 (is 0x03)  -- version
     (one 1 (is 0x0D)  -- security
-    (num 4 (atLeast 1) BadHeader (λ d.  -- data length d: document 004, 9.1.1 and 9.2.1: not zero
+    (num 4 (atLeast 1) BadHeader (λ d.  -- data length d: document 004, 9.1.1, 9.2.1 and 9.3.1: not zero
     (num 2 (signatureLength size d) BadHeader (λ s.  -- signature length s
-    (one 2 (is 0x001B)  -- owner
+    (one 2 (is (b .owner))  -- owner
     (one 2 (is (b .format))  -- format
     (part 8 moment  -- creation date
     (raw 8 moment BadHeader (λ from.  -- validity from

@@ -17,13 +17,13 @@ use Rattle.cbeff.specs.Header.{data-part}
 use Rattle.cbeff.specs.declared.Biometric.{Biometric}
 
 -- version, security, d, s and the length of the whole, owner, format
-abbrev pub sizeTests : ℕ → ℕ → List ℕ → List Bool
-sizeTests format d v =
+abbrev pub sizeTests : Biometric → ℕ → List ℕ → List Bool
+sizeTests b d v =
     eqb (field v 0 1) 0x03 ∷ eqb (field v 1 1) 0x0D ∷ leb 1 d ∷ leb 1 (field v 6 2) ∷ eqb (88 + d + field v 6 2) (length v)
-    ∷ eqb (field v 8 2) 0x001B ∷ eqb (field v 10 2) format ∷ []
+    ∷ eqb (field v 8 2) (b .owner) ∷ eqb (field v 10 2) (b .format) ∷ []
 
-unfoldable pub sizesHold : ℕ → ℕ → List ℕ → Bool
-sizesHold format d v = all (sizeTests format d v)
+unfoldable pub sizesHold : Biometric → ℕ → List ℕ → Bool
+sizesHold b d v = all (sizeTests b d v)
 
 -- creation, from, to
 abbrev pub dateTests : List ℕ → List Bool
@@ -42,7 +42,7 @@ formHolds b v = all (formTests b v)
 
 -- the fields before the FASC-N
 abbrev pub opens : Biometric → List ℕ → Bool
-opens b v = sizesHold (b .format) (field v 2 4) v && datesHold v && formHolds b v
+opens b v = sizesHold b (field v 2 4) v && datesHold v && formHolds b v
 
 -- the whole: the FASC-N, the reserved bytes and the data in this order, where the fields before them are as they should be
 unfoldable pub judged : Biometric → List ℕ → Ruling

@@ -4,11 +4,12 @@ ghost use Prim.Native.Nat.{_^_, _<_, _≤_};
 ghost use lib.ListN.{length};
 ghost use Rattle.laws.specs.Format.{judge};
 ghost use Rattle.verdicts.specs.Verdicts.{ruled};
-ghost use Rattle.cbeff.specs.Header.{fingers, face, header, data-part};
+ghost use Rattle.cbeff.specs.Header.{fingers, face, iris, header, data-part};
 ghost use Rattle.cbeff.specs.Judged.{sizesHold, datesHold, formHolds};
 use dates::is_moment;
 use facial::is_facial;
 use fascn::is_fascn;
+use iris::is_iris;
 use minutiae::is_minutiae;
 use numbers::number;
 use plain::is_creator;
@@ -20,11 +21,13 @@ use verdicts::Ruling;
 pub enum Body {
     Minutiae,
     Facial,
+    Iris,
 }
 
-// What differs by format: its number, the type, the top three bits of the data type, whether a quality of -1 is known, what
+// What differs by format: its owner, its number, the type, the top three bits of the data type, whether a quality of -1 is known, what
 // the data part is, and the fault of one that is no such record.
 pub struct Biometric {
+    pub owner: u64,
     pub format: u64,
     pub sort: u64,
     pub top: u64,
@@ -38,6 +41,7 @@ pub fn fingers() -> Biometric
     ensures { λ r. ⌜ r ≡ fingers ⌝ }
 {
     Biometric {
+        owner: 0x001B,
         format: 0x0201,
         sort: 0x000008,
         top: 4,
@@ -52,6 +56,7 @@ pub fn face() -> Biometric
     ensures { λ r. ⌜ r ≡ face ⌝ }
 {
     Biometric {
+        owner: 0x001B,
         format: 0x0501,
         sort: 0x000002,
         top: 1,
@@ -61,10 +66,26 @@ pub fn face() -> Biometric
     }
 }
 
+// Document 004, 9.3: "The BDB Format Owner field has a value of 0x0101", "Format Type field .. 0x0009", "Biometric Type field for
+// the iris image is 0x000010", "Data Type field .. b010xxxxx"; its data are an iris record.
+pub fn iris() -> Biometric
+    ensures { λ r. ⌜ r ≡ iris ⌝ }
+{
+    Biometric {
+        owner: 0x0101,
+        format: 0x0009,
+        sort: 0x000010,
+        top: 2,
+        missing: true,
+        body: Body::Iris,
+        broken: Fault::BadIris,
+    }
+}
+
 // Version, security, the lengths, owner, format. The data length d is handed in, since the data are found by it too.
-fn sizes_hold(format: u64, d: u64, v: &[u8]) -> bool
+fn sizes_hold(b: Biometric, d: u64, v: &[u8]) -> bool
     requires { ⌜ (88 ≤ length (now v)) × (d < 256 ^ 4) ⌝ }
-    ensures { λ r. ⌜ r ≡ sizesHold format d (now (v .entry)) ⌝ }
+    ensures { λ r. ⌜ r ≡ sizesHold b d (now (v .entry)) ⌝ }
 {
     let s = number(v, 6, 2);
     (number(v, 0, 1) == 0x03)
@@ -72,8 +93,8 @@ fn sizes_hold(format: u64, d: u64, v: &[u8]) -> bool
         & (1 <= d)
         & (1 <= s)
         & (88 + d + s == v.len() as u64)
-        & (number(v, 8, 2) == 0x001B)
-        & (number(v, 10, 2) == format)
+        & (number(v, 8, 2) == b.owner)
+        & (number(v, 10, 2) == b.format)
 }
 
 // "creation date (8), validity from and to (16), from not after to": moments are in order by the numbers of their bytes.
@@ -106,13 +127,14 @@ fn form_holds(b: Biometric, v: &[u8]) -> bool
         & is_creator(&v[41..59])
 }
 
-// "Minutiae (the d bytes, kind 6)", and in kind 7 a facial record.
+// "Minutiae (the d bytes, kind 6)", in kind 7 a facial record, in kind 12 an iris record.
 fn data_holds(body: Body, bytes: &[u8]) -> bool
     ensures { λ r. ⌜ r ≡ data-part body .test (now (bytes .entry)) ⌝ }
 {
     match body {
         Body::Minutiae => is_minutiae(bytes),
         Body::Facial => is_facial(bytes),
+        Body::Iris => is_iris(bytes),
     }
 }
 
@@ -125,7 +147,7 @@ pub fn judge(b: Biometric, v: &[u8]) -> Ruling
         return Ruling::Breaks(Fault::BadHeader);
     }
     let d = number(v, 2, 4);
-    if !sizes_hold(b.format, d, v) {
+    if !sizes_hold(b, d, v) {
         return Ruling::Breaks(Fault::BadHeader);
     }
     if !dates_hold(v) {

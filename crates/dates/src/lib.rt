@@ -47,7 +47,7 @@ fn days_in(year: u64, month: u64) -> u64
 }
 
 // "year 0001 to 9999, Gregorian". A month that there is not has no days, so no day of it exists.
-fn exists(year: u64, month: u64, day: u64) -> bool
+pub fn exists(year: u64, month: u64, day: u64) -> bool
     ensures { λ r. ⌜ r ≡ exists year month day ⌝ }
 {
     (1 <= year) & (year <= 9999) & (1 <= day) & (day <= days_in(year, month))

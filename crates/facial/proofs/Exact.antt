@@ -84,4 +84,4 @@ record-judged d = simp cond-and
 -- the test says that these bytes are a facial record exactly when they are one
 pub facial-exact : (d : List ℕ) → Bytes d → (isFacial d ≡ true) ↔ IsFacial d
 unfolding isFacial
-facial-exact d b = whole-exact block extent blocks (facial (length d)) (facial-agrees (length d)) d b 14 (recordHead (field d 12 2) d) (field d 12 2) (record-judged d)
+facial-exact d b = whole-exact (λ more. block) (λ more. extent) (λ more. blocks) (facial (length d)) (facial-agrees (length d)) d b 14 (recordHead (field d 12 2) d) (field d 12 2) (record-judged d)

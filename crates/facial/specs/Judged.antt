@@ -37,4 +37,4 @@ recordHead count d = all (recordTests count d)
 
 -- these bytes are a facial record
 unfoldable pub isFacial : List ℕ → Bool
-isFacial d = whole extent 14 (recordHead (field d 12 2) d) (field d 12 2) d
+isFacial d = whole (λ more. extent) 14 (recordHead (field d 12 2) d) (field d 12 2) d

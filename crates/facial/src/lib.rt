@@ -43,7 +43,7 @@ fn block(s: &[u8]) -> Extent
 // So many blocks behind the header, and nothing after them.
 fn images(d: &[u8], count: usize) -> bool
     requires { ⌜ 14 ≤ length (now d) ⌝ }
-    ensures { λ r. ⌜ r ≡ fills extent count 14 (now (d .entry)) ⌝ }
+    ensures { λ r. ⌜ r ≡ fills (λ more. extent) count 14 (now (d .entry)) ⌝ }
 {
     let mut at: usize = 14;
     let mut left = count;

@@ -12,7 +12,7 @@ use lib.Seq.{drop-drop, take-at, drop-at}
 use borrow.Author.Tests.{eqb-true, eqb-false, eq-eqb, ne-eqb, leb-true, le-leb}
 use Rattle.laws.specs.Bytes.{Bytes}
 use Rattle.laws.specs.Layout.{number, field, part}
-use Rattle.laws.specs.Format.{Rule, Format, end, num, raw, IsNumber, IsPart, Laid, FirstBroken, Agrees, Judged, kept, breaks, judge, is, _or_, atLeast, between, anything, times}
+use Rattle.laws.specs.Format.{Rule, Format, end, num, raw, IsNumber, IsPart, Laid, FirstBroken, Agrees, Judged, kept, breaks, judge, is, _or_, atLeast, between, _and_, anything, counted, times, numbered}
 use Rattle.laws.proofs.Cases.{which, and-true, and-is, either, or-left, or-right}
 use Rattle.laws.proofs.Bases.{below-take, below-drop, length-digits}
 use Rattle.laws.proofs.Layouts.{read, written, part-long, field-small}
@@ -37,6 +37,13 @@ between-agrees w low high m h = (
   λ c. and-is _ _ (le-leb low m (c .0)) (le-leb m high (c .1)),
 )
 
+pub both-agree : (w : ℕ) (p q : Rule ℕ) → ((m : ℕ) → m < 256 ^ w → (p .test m ≡ true) ↔ p .says m) → ((m : ℕ) → m < 256 ^ w → (q .test m ≡ true) ↔ q .says m)
+    → (m : ℕ) → m < 256 ^ w → ((p and q) .test m ≡ true) ↔ (p and q) .says m
+both-agree w p q a b m h = (
+  λ e. let c = and-true (p .test m) (q .test m) e in (a m h .0 (c .0), b m h .0 (c .1)),
+  λ c. and-is _ _ (a m h .1 (c .0)) (b m h .1 (c .1)),
+)
+
 pub anything-agrees : (w : ℕ) (v : List ℕ) → Bytes v → length v ≡ w → (anything .test v ≡ true) ↔ anything .says v
 anything-agrees w v b h = (λ e. tt, λ u. refl)
 
@@ -48,9 +55,16 @@ infixr 5 _next_
 pub _next_ : {X A B : Type 0} {P : X → Type 0} → A → B → A × ((x : X) → P x → B)
 a next b = (a, λ x h. b)
 
-pub times-agree : {X : Type 0} (f : Format X → Format X) → ((k : Format X) → Agrees k → Agrees (f k)) → (m : ℕ) (k : Format X) → Agrees k → Agrees (times m f k)
-times-agree f g zero k a = a
-times-agree f g (suc m) k a = g (times m f k) (times-agree f g m k a)
+module _ {X : Type 0} where
+  counted-agree : (f : ℕ → Format X → Format X) → ((i : ℕ) (k : Format X) → Agrees k → Agrees (f i k)) → (m : ℕ) (k : Format X) → Agrees k → Agrees (counted m f k)
+  counted-agree f g zero k a = a
+  counted-agree f g (suc m) k a = g m (counted m f k) (counted-agree f g m k a)
+
+  pub times-agree : (f : Format X → Format X) → ((k : Format X) → Agrees k → Agrees (f k)) → (m : ℕ) (k : Format X) → Agrees k → Agrees (times m f k)
+  times-agree f g m k a = counted-agree (λ more. f) (λ more. g) m k a
+
+  pub numbered-agree : (f : ℕ → Format X → Format X) → ((i : ℕ) (k : Format X) → Agrees k → Agrees (f i k)) → (m : ℕ) (k : Format X) → Agrees k → Agrees (numbered m f k)
+  numbered-agree f g m k a = counted-agree (λ more. f (m - more)) (λ more. g (m - more)) m k a
 
 -- ---- a field that keeps its rule is what is read where it is due
 

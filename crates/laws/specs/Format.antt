@@ -1,6 +1,6 @@
 -- A binary record as a table: fields in a document's order, each with its width, its rule, the fault that breaking it is, and what follows,
 -- which may hang on what was read.
-use Prim.Native.Nat.{ℕ, zero, suc, _+_, _^_, _<_, _≤_}
+use Prim.Native.Nat.{ℕ, zero, suc, _+_, _-_, _^_, _<_, _≤_}
 use mathlib.Core.Path.{_≡_}
 use mathlib.Core.Logic.{_↔_, _⊎_}
 use mathlib.Core.Bool.{Bool, true, cond, _&&_, _||_}
@@ -79,6 +79,11 @@ atLeast low = record { says = λ m. low ≤ m; test = λ m. leb low m }
 abbrev pub between : ℕ → ℕ → Rule ℕ
 between low high = record { says = λ m. (low ≤ m) × (m ≤ high); test = λ m. leb low m && leb m high }
 
+-- both rules
+infix 4 _and_
+abbrev pub _and_ : Rule ℕ → Rule ℕ → Rule ℕ
+p and q = record { says = λ m. p .says m × q .says m; test = λ m. p .test m && q .test m }
+
 -- anything: what is not examined
 abbrev pub anything : {A : Type 0} → Rule A
 anything = record { says = λ v. Unit {0}; test = λ v. true }
@@ -92,7 +97,15 @@ one w p k = num w p tt (λ n. k)
 abbrev pub free : ℕ → Format (Unit {0}) → Format (Unit {0})
 free w k = raw w anything tt (λ v. k)
 
+-- so many times fields that know how many more of them follow
+abbrev pub counted : {X : Type 0} → ℕ → (ℕ → Format X → Format X) → Format X → Format X
+counted zero f k = k
+counted (suc m) f k = f m (counted m f k)
+
 -- the same fields so many times, one after the other
 abbrev pub times : {X : Type 0} → ℕ → (Format X → Format X) → Format X → Format X
-times zero f k = k
-times (suc m) f k = f (times m f k)
+times m f k = counted m (λ more. f) k
+
+-- so many times fields that know their own number: 1, then 2 and so on
+abbrev pub numbered : {X : Type 0} → ℕ → (ℕ → Format X → Format X) → Format X → Format X
+numbered m f k = counted m (λ more. f (m - more)) k

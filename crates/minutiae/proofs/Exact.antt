@@ -81,4 +81,4 @@ record-judged d = simp cond-and
 -- the test says that these bytes are a minutiae record exactly when they are one
 pub minutiae-exact : (d : List ℕ) → Bytes d → (isMinutiae d ≡ true) ↔ IsMinutiae d
 unfolding isMinutiae
-minutiae-exact d b = whole-exact view extent views (minutiae (length d)) (minutiae-agrees (length d)) d b 26 (recordHead d) 2 (record-judged d)
+minutiae-exact d b = whole-exact (λ more. view) (λ more. extent) (λ more. views) (minutiae (length d)) (minutiae-agrees (length d)) d b 26 (recordHead d) 2 (record-judged d)

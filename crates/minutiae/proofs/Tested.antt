@@ -55,7 +55,7 @@ pub record Whole (d : List ℕ) : Type 0 where
 pub record-told : (d : List ℕ) → isMinutiae d ≡ true → Whole d
 unfolding isMinutiae
 record-told d e =
-    let w = whole-told extent 26 (recordHead d) 2 d e in
-    let s = fills-told extent 1 26 d (w .2) in
-    let t = fills-told extent 0 (26 + s .0) d (s .2) in
-    record { n = s .0; m = t .0; long = w .0; head = w .1; first = s .1; second = t .1; whole = fills-whole extent (26 + s .0 + t .0) d (t .2) }
+    let w = whole-told (λ more. extent) 26 (recordHead d) 2 d e in
+    let s = fills-told (λ more. extent) 1 26 d (w .2) in
+    let t = fills-told (λ more. extent) 0 (26 + s .0) d (s .2) in
+    record { n = s .0; m = t .0; long = w .0; head = w .1; first = s .1; second = t .1; whole = fills-whole (λ more. extent) (26 + s .0 + t .0) d (t .2) }

@@ -51,4 +51,4 @@ recordHead d = all (recordTests d)
 
 -- these bytes are a minutiae record
 unfoldable pub isMinutiae : List ℕ → Bool
-isMinutiae d = whole extent 26 (recordHead d) 2 d
+isMinutiae d = whole (λ more. extent) 26 (recordHead d) 2 d

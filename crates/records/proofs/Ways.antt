@@ -22,16 +22,16 @@ behind-told : (x : Extent) (f : ℕ → Bool) → behind x f ≡ true → (n : �
 behind-told (Takes n) f e = (n, refl, e)
 behind-told None f e = absurd (false≢true e)
 
-module _ (extent : List ℕ → Extent) where
-  pub fills-next : (m at : ℕ) (d : List ℕ) {n : ℕ} → 0 < m → Takes n ≡ extent (drop at d) → fills extent (m - 1) (at + n) d ≡ fills extent m at d
+module _ (extent : ℕ → List ℕ → Extent) where
+  pub fills-next : (m at : ℕ) (d : List ℕ) {n : ℕ} → 0 < m → Takes n ≡ extent (m - 1) (drop at d) → fills extent (m - 1) (at + n) d ≡ fills extent m at d
   unfolding fills
   fills-next zero at d h e = absurd (not-suc-le-zero h)
-  fills-next (suc m) at d h e = let p : suc m - 1 ≡ m = omega arith in rw (← e, p)
+  fills-next (suc m) at d h e = let p : suc m - 1 ≡ m = omega arith in rw (← rw p at e, p)
 
-  pub fills-not : (m at : ℕ) (d : List ℕ) → 0 < m → None ≡ extent (drop at d) → false ≡ fills extent m at d
+  pub fills-not : (m at : ℕ) (d : List ℕ) → 0 < m → None ≡ extent (m - 1) (drop at d) → false ≡ fills extent m at d
   unfolding fills
   fills-not zero at d h e = absurd (not-suc-le-zero h)
-  fills-not (suc m) at d h e = rw (← e)
+  fills-not (suc m) at d h e = let p : suc m - 1 ≡ m = omega arith in rw (← rw p at e)
 
   pub fills-ended : (m at : ℕ) (d : List ℕ) → m ≤ 0 → eqb at (length d) ≡ fills extent m at d
   unfolding fills
@@ -61,9 +61,9 @@ module _ (extent : List ℕ → Extent) where
       let h = and-true (leb front (length d)) head (a .0) in
       (leb-true _ _ (h .0), h .1, a .1)
 
-  pub fills-told : (m at : ℕ) (d : List ℕ) → fills extent (suc m) at d ≡ true → (n : ℕ) × (extent (drop at d) ≡ Takes n) × (fills extent m (at + n) d ≡ true)
+  pub fills-told : (m at : ℕ) (d : List ℕ) → fills extent (suc m) at d ≡ true → (n : ℕ) × (extent m (drop at d) ≡ Takes n) × (fills extent m (at + n) d ≡ true)
   unfolding fills
-  fills-told m at d e = behind-told (extent (drop at d)) (λ n. fills extent m (at + n) d) e
+  fills-told m at d e = behind-told (extent m (drop at d)) (λ n. fills extent m (at + n) d) e
 
   pub fills-whole : (at : ℕ) (d : List ℕ) → fills extent 0 at d ≡ true → at ≡ length d
   unfolding fills

@@ -1,7 +1,7 @@
 -- 01, "Numbers", and requests 2026-04 and 2026-05: the number of each fault; and the verdict, a number, a place and, since 2026-02, the tag of the element there.
 use Prim.Native.Nat.{ℕ}
 use Rattle.verdicts.specs.declared.Fault.{Fault}
-use Rattle.verdicts.specs.declared.Fault.the-variants.{UnknownKind, NoDate, SmallRoom, LargeContainer, TornSheet, NoElement, LongNumber, LongReport, OuterTag, LengthForm, Overrun, UnknownTag, TagOrder, MissingRow, ElementLength, BadFascn, BadUuid, BadDate, BadFixed, BadHeader, BadMinutiae, BadText, BadDer, TooDeep, BadFace}
+use Rattle.verdicts.specs.declared.Fault.the-variants.{UnknownKind, NoDate, SmallRoom, LargeContainer, TornSheet, NoElement, LongNumber, LongReport, OuterTag, LengthForm, Overrun, UnknownTag, TagOrder, MissingRow, ElementLength, BadFascn, BadUuid, BadDate, BadFixed, BadHeader, BadMinutiae, BadText, BadDer, TooDeep, BadFace, BadIris}
 use Rattle.verdicts.specs.declared.Tag.{Tag}
 use Rattle.verdicts.specs.declared.Tag.the-variants.{NoTag, Of}
 use Rattle.verdicts.specs.declared.Finding.{Finding}
@@ -14,7 +14,7 @@ use Rattle.laws.specs.Format.{Judged, kept, breaks}
 use mathlib.Core.Bool.{Bool, cond}
 
 abbrev pub numberOf : Fault → ℕ
-numberOf UnknownKind = 1  -- kind not 1 to 11
+numberOf UnknownKind = 1  -- kind not 1 to 12
 numberOf NoDate = 2  -- today is no date
 numberOf SmallRoom = 3  -- room too small
 numberOf LargeContainer = 4  -- container over 32,768 bytes, given or to be written
@@ -39,6 +39,7 @@ numberOf BadText = 23  -- text byte
 numberOf BadDer = 24  -- DER item
 numberOf TooDeep = 25  -- DER item too deep
 numberOf BadFace = 26  -- face record
+numberOf BadIris = 27  -- iris record
 
 -- ---- 2026-02: "The verdict record should carry the element's tag"
 

@@ -31,6 +31,7 @@ pub enum Fault {
     BadDer,
     TooDeep,
     BadFace,
+    BadIris,
 }
 
 // What a value's rule answers.
@@ -105,6 +106,7 @@ pub fn number_of(f: Fault) -> u64
         Fault::BadDer => 24,
         Fault::TooDeep => 25,
         Fault::BadFace => 26,
+        Fault::BadIris => 27,
     }
 }
 

@@ -27,7 +27,7 @@ value c = c .before .before .before .before .before .args .v .now
 abbrev size : tie.Else2 → ℕ
 size c = c .before .before .number .result
 
-sized : (c : tie.Else2) → true ≡ sizesHold (biometric c .format) (size c) (value c)
+sized : (c : tie.Else2) → true ≡ sizesHold (biometric c) (size c) (value c)
 sized c = sym (not-false _ (c .if2 .left)) ∙ c .before .sizes-hold .ensures
 
 dated : (c : tie.Else3) → true ≡ datesHold (value (c .before .before))
@@ -90,7 +90,7 @@ whole : (c : tie.Else6) → let k = c .before .before .before .before .before .b
     (1 ≤ size k) × (1 ≤ field (value k) 6 2) × (88 + size k + field (value k) 6 2 ≡ length (value k))
 whole c =
     let k = c .before .before .before .before .before .before .before .before .before in
-    sizes-told (biometric k .format) (size k) (value k) (sym (sized k))
+    sizes-told (biometric k) (size k) (value k) (sym (sized k))
 
 returns-7 : tie.Need-returns-7
 returns-7 c =

@@ -8,11 +8,11 @@ returns : tie.Need-returns
 unfolding sizesHold
 returns c =
     rw (
-      c .number5 .ensures .0,
-      c .before .number4 .ensures .0,
-      c .before .before .number3 .ensures .0,
-      c .before .before .before .number2 .ensures .0,
-      c .before .before .before .before .number .ensures .0,
+      c .before .number5 .ensures .0,
+      c .before .before .before .number4 .ensures .0,
+      c .before .before .before .before .number3 .ensures .0,
+      c .before .before .before .before .before .number2 .ensures .0,
+      c .before .before .before .before .before .before .number .ensures .0,
     )
 
 pub sizes-hold-spec : {M : Type 1} → statement M

@@ -15,7 +15,7 @@ use Rattle.facial.proofs.images.Statement.{statement}
 use Rattle.facial.proofs.images.Tie as tie
 
 abbrev Inv-loop : tie.InvT-loop
-Inv-loop d count at₀ left₀ at left = (at ≤ length d) × (fills extent left at d ≡ fills extent count 14 d)
+Inv-loop d count at₀ left₀ at left = (at ≤ length d) × (fills (λ more. extent) left at d ≡ fills (λ more. extent) count 14 d)
 
 abbrev μ-loop : tie.MeasureT-loop
 μ-loop d count at₀ left₀ at left = left
@@ -36,14 +36,14 @@ found-inside c = block-inside (loop c .loop .at) (bytes (loop c)) (found c)
 returns : tie.Need-returns Inv-loop μ-loop
 returns c =
     let l = c .before .before .before .before .before in
-    fills-not extent (l .loop .left) (l .loop .at) (bytes l) (omega arith)
+    fills-not (λ more. extent) (l .loop .left) (l .loop .at) (bytes l) (omega arith)
     (sym (c .enum-told .given .1) ∙ rw rest at (c .before .before .block .ensures))
     ∙ l .loop .inv .1
 
 loop-again : tie.Need-loop-again Inv-loop μ-loop
 loop-again c =
     let l = loop c in
-    (omega (arith, found-inside c), fills-next extent (l .loop .left) (l .loop .at) (bytes l) (omega arith) (found c) ∙ l .loop .inv .1)
+    (omega (arith, found-inside c), fills-next (λ more. extent) (l .loop .left) (l .loop .at) (bytes l) (omega arith) (found c) ∙ l .loop .inv .1)
 
 pub images-spec : {M : Type 1} → statement M
 images-spec =
@@ -63,4 +63,4 @@ images-spec =
     (λ c. search needs)
     (λ c. search needs)
     loop-again
-    (λ c. fills-ended extent _ _ _ (omega arith) ∙ c .before .loop .inv .1))
+    (λ c. fills-ended (λ more. extent) _ _ _ (omega arith) ∙ c .before .loop .inv .1))

@@ -10,20 +10,20 @@ use Rattle.facial.proofs.is_facial.Tie as tie
 
 returns : tie.Need-returns
 unfolding isFacial
-returns c = no-front extent 14 _ _ _ (c .if1 .taken)
+returns c = no-front (λ more. extent) 14 _ _ _ (c .if1 .taken)
 
 returns-2 : tie.Need-returns-2
 unfolding isFacial
 returns-2 c =
     rw (← c .before .before .number .ensures .0)
-    (bad-front extent 14 _ _ _ (omega arith) (sym (not-true _ (c .if2 .taken)) ∙ c .before .record-head .ensures))
+    (bad-front (λ more. extent) 14 _ _ _ (omega arith) (sym (not-true _ (c .if2 .taken)) ∙ c .before .record-head .ensures))
 
 returns-3 : tie.Need-returns-3
 unfolding isFacial
 returns-3 c =
     let k = c .before in
     rw (← k .before .before .number .ensures .0)
-    (by-parts extent 14 _ _ _ (omega arith) (sym (not-false _ (k .if2 .left)) ∙ k .before .record-head .ensures) _ (c .images .ensures))
+    (by-parts (λ more. extent) 14 _ _ _ (omega arith) (sym (not-false _ (k .if2 .left)) ∙ k .before .record-head .ensures) _ (c .images .ensures))
 
 pub is-facial-spec : {M : Type 1} → statement M
 is-facial-spec =

@@ -48,36 +48,36 @@ second-inside c = view-inside (26 + one (earlier c)) (bytes (earlier c)) (second
 
 returns : tie.Need-returns
 unfolding isMinutiae
-returns c = no-front extent 26 _ 2 _ (c .if1 .taken)
+returns c = no-front (λ more. extent) 26 _ 2 _ (c .if1 .taken)
 
 returns-2 : tie.Need-returns-2
 unfolding isMinutiae
-returns-2 c = bad-front extent 26 _ 2 _ (omega arith) (sym (not-true _ (c .if2 .taken)) ∙ c .before .record-head .ensures)
+returns-2 c = bad-front (λ more. extent) 26 _ 2 _ (omega arith) (sym (not-true _ (c .if2 .taken)) ∙ c .before .record-head .ensures)
 
 -- what is left to say behind the second view
-ends : (c : tie.After-known-told2) → eqb (26 + one (earlier c) + two c) (length (bytes (earlier c))) ≡ fills extent 2 26 (bytes (earlier c))
+ends : (c : tie.After-known-told2) → eqb (26 + one (earlier c) + two c) (length (bytes (earlier c))) ≡ fills (λ more. extent) 2 26 (bytes (earlier c))
 ends c =
-    fills-ended extent 0 (26 + one (earlier c) + two c) (bytes (earlier c)) (omega arith)
-    ∙ fills-next extent 1 (26 + one (earlier c)) (bytes (earlier c)) (omega arith) (second c)
-    ∙ fills-next extent 2 26 (bytes (earlier c)) (omega arith) (first (earlier c))
+    fills-ended (λ more. extent) 0 (26 + one (earlier c) + two c) (bytes (earlier c)) (omega arith)
+    ∙ fills-next (λ more. extent) 1 (26 + one (earlier c)) (bytes (earlier c)) (omega arith) (second c)
+    ∙ fills-next (λ more. extent) 2 26 (bytes (earlier c)) (omega arith) (first (earlier c))
 
 returns-3 : tie.Need-returns-3
 unfolding isMinutiae
 returns-3 c =
-    by-parts extent 26 _ 2 _ (omega arith) (head (c .before .before .before .before)) false
-    (fills-not extent 2 26 _ (omega arith) (sym (c .enum-told .given .1) ∙ rw rest at (c .before .before .view .ensures)))
+    by-parts (λ more. extent) 26 _ 2 _ (omega arith) (head (c .before .before .before .before)) false
+    (fills-not (λ more. extent) 2 26 _ (omega arith) (sym (c .enum-told .given .1) ∙ rw rest at (c .before .before .view .ensures)))
 
 returns-4 : tie.Need-returns-4
 unfolding isMinutiae
 returns-4 c =
     let k = c .before .before .before .before in
-    by-parts extent 26 _ 2 _ (omega arith) (head (k .before .before .before .before .before)) false
-    (fills-not extent 1 (26 + one k) (bytes k) (omega arith) (sym (c .enum-told2 .given .1) ∙ rw rest at (c .before .before .view2 .ensures))
-    ∙ fills-next extent 2 26 (bytes k) (omega arith) (first k))
+    by-parts (λ more. extent) 26 _ 2 _ (omega arith) (head (k .before .before .before .before .before)) false
+    (fills-not (λ more. extent) 1 (26 + one k) (bytes k) (omega arith) (sym (c .enum-told2 .given .1) ∙ rw rest at (c .before .before .view2 .ensures))
+    ∙ fills-next (λ more. extent) 2 26 (bytes k) (omega arith) (first k))
 
 returns-5 : tie.Need-returns-5
 unfolding isMinutiae
-returns-5 c = by-parts extent 26 _ 2 _ (omega arith) (head (earlier c .before .before .before .before .before)) _ (ends c)
+returns-5 c = by-parts (λ more. extent) 26 _ 2 _ (omega arith) (head (earlier c .before .before .before .before .before)) _ (ends c)
 
 pub is-minutiae-spec : {M : Type 1} → statement M
 is-minutiae-spec =
