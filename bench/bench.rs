@@ -10,8 +10,10 @@
 use second::card::{all_kinds, kind_of, Rule, CONFORMS};
 use second::faces::{facial, Image};
 use second::generate::{certificate_kinds, endless_row, Card, Form, Forms, LONGEST_FORM};
-use second::samples::face;
+use second::irises::{iris_record, pair_of};
+use second::samples::{face, iris};
 use second::trees::{certificate_of_pairs, Tree};
+use second::values::IRIS_MOST_BYTES;
 use second::{number, tag_number};
 use std::arch::asm;
 use std::ops::{Deref, DerefMut};
@@ -260,13 +262,13 @@ fn filling(length: usize) -> Vec<u8> {
     (b' '..=b'~').cycle().take(length).collect()
 }
 
-/// The value of a row that has no longest one with so many bytes more: of any kind in 3E, in BC of the signature of fingers and of
-/// the pixels of a face. In 70 it is a certificate of items of two bytes.
+/// The value of a row that has no longest one with so many bytes more: of any kind in 3E, in BC of the signature of fingers and irises
+/// and of the pixels of a face. In 70 it is a certificate of items of two bytes.
 fn longer(rule: Rule, value: &[u8], more: usize) -> Vec<u8> {
     let mut longer = [value, &filling(more)[..]].concat();
     match rule {
         Rule::Certificate => certificate_of_pairs(longer.len()).expect("a certificate of so many bytes"),
-        Rule::Fingers => {
+        Rule::Fingers | Rule::Iris => {
             let signature = u16::from_be_bytes([value[6], value[7]]) + more as u16;
             longer[6..8].copy_from_slice(&signature.to_be_bytes());
             longer
@@ -311,6 +313,7 @@ fn largest(kind: u64) -> Vec<u8> {
             Rule::Any | Rule::Text if row.longest <= LARGEST => *value = Some(filling(row.longest)),
             Rule::Uuid => *value = uuid.clone().unwrap(),
             Rule::Fingers => *value = Some(with_minutiae(value.as_ref().unwrap(), 128)),
+            Rule::Iris => *value = iris(100, &iris_record(&pair_of(2 * IRIS_MOST_BYTES, 3_000)), 1).rows[0].take(),
             _ => (),
         }
     }

@@ -1,13 +1,13 @@
 //! The comparison is tried itself: faults are planted in calls of every sort, one at a time, and each has to be seen at
 //! the byte where it was planted. So are the tags that a mistaken program would name, in calls on every fault of a container or
 //! a sheet, the places that one would give which takes every length for one in fewest bytes, and the numbers of one that judges a
-//! printed date or a facial record by another rule.
+//! printed date, a facial or an iris record by another rule.
 
 use crate::trial::{call_text, native, Fault, Sort, Stretch, Trial, Wrong};
 use second::batch::{Answer, Call, Record};
 use second::card::{kind_of, length_at, walk};
 use second::generate::{fewest, Inputs, Rng};
-use second::{dates, faces, faults, lengths, tag_number, NO_TAG};
+use second::{dates, faces, faults, irises, lengths, tag_number, NO_TAG};
 use std::collections::BTreeMap;
 use std::ops::Range;
 
@@ -68,14 +68,16 @@ fn faults_before(stretch: &Stretch) -> Vec<Planted> {
 }
 
 /// The mistakes that are made in a number that is lent, each with the name of that.
-const MISTAKES: [(&str, &str); 19] = [
+const MISTAKES: [(&str, &str); 21] = [
     ("number", "16 for no date"),
     ("number", "23 for no date"),
     ("number", "19 for a length"),
     ("number", "0 for no record"),
     ("number", "21 for no record"),
     ("number", "22 for no record"),
+    ("number", "26 for no record"),
     ("number", "26 for a header"),
+    ("number", "27 for a header"),
     ("tag", "0 for none"),
     ("tag", "none for 00"),
     ("tag", "none for a tag"),
@@ -166,13 +168,16 @@ fn mistaken_places(record: &Record, expected: &Answer) -> Vec<(&'static str, u64
 }
 
 /// The numbers of a program that asks for eight characters of a printed date, takes it for a text, or asks for its length later;
-/// and of one that does not look at a facial record, takes it for a part of the header or for minutiae, or asks for it first.
+/// and of one that does not look at a facial or an iris record, takes it for a part of the header or for that of another kind, or asks
+/// for it first.
 fn mistaken_numbers(record: &Record, expected: &Answer) -> Vec<(&'static str, u64)> {
     match (record.kind, expected.tag, expected.number) {
         (4, Some(0x04), 19) => vec![("16 for no date", 16), ("23 for no date", 23)],
         (4, Some(0x04), 16) => vec![("19 for a length", 19)],
         (7, Some(0xBC), 26) => vec![("0 for no record", 0), ("21 for no record", 21), ("22 for no record", 22)],
         (7, Some(0xBC), 17 | 21) => vec![("26 for a header", 26)],
+        (12, Some(0xBC), 27) => vec![("0 for no record", 0), ("21 for no record", 21), ("26 for no record", 26)],
+        (12, Some(0xBC), 17 | 21) => vec![("27 for a header", 27)],
         _ => Vec::new(),
     }
 }
@@ -293,7 +298,8 @@ impl Trying {
 /// Plants the faults and gives whether all were seen.
 pub fn all_seen(seed: u64) -> bool {
     let mut trying = Trying { trial: Trial::new(!seed), rng: Rng::new(seed), planted: BTreeMap::new(), unseen: 0 };
-    let with_faults = [dates::records(), faces::records(), faults::records(), lengths::records()].concat();
+    let with_faults =
+        [dates::records(), faces::records(), irises::records(), faults::records(), lengths::records()].concat();
     let made = calls(seed);
     let planting = made.iter().map(|record| (record, true)).chain(with_faults.iter().map(|record| (record, false)));
     for (record, everywhere) in planting {
@@ -304,7 +310,7 @@ pub fn all_seen(seed: u64) -> bool {
         }
     }
     println!(
-        "faults planted in {} calls of every sort, and mistakes in {} on dates, faces, faults and longer forms, one at a time:",
+        "faults planted in {} calls of every sort, and mistakes in {} on dates, faces, irises, faults and longer forms, one at a time:",
         made.len(),
         with_faults.len()
     );

@@ -28,6 +28,7 @@ pub enum Rule {
     Text,
     Fingers,
     Face,
+    Iris,
     Certificate,
 }
 
@@ -78,8 +79,9 @@ impl Row {
             Rule::PrintedDate => (values::is_printed_date(value), number::DATE),
             Rule::Policy => (values::is_policy(value), number::FIXED),
             Rule::Text => (values::is_text(value), number::TEXT),
-            Rule::Fingers => return values::biometric(value, false),
-            Rule::Face => return values::biometric(value, true),
+            Rule::Fingers => return values::biometric(value, &values::FINGERS),
+            Rule::Face => return values::biometric(value, &values::FACE),
+            Rule::Iris => return values::biometric(value, &values::IRIS),
             Rule::Certificate => return values::certificate(value),
         };
         if good {
@@ -114,7 +116,7 @@ const CERTIFICATE: &[Row] = &[
 ];
 
 /// Kinds are counted from 1 to this one.
-pub const LAST_KIND: u64 = 11;
+pub const LAST_KIND: u64 = 12;
 
 static KINDS: [Kind; LAST_KIND as usize] = [
     Kind {
@@ -183,6 +185,7 @@ static KINDS: [Kind; LAST_KIND as usize] = [
     Kind { name: "DIGSIG", outer: 0x53, rows: CERTIFICATE },
     Kind { name: "KEYMGMT", outer: 0x53, rows: CERTIFICATE },
     Kind { name: "CARDAUTH", outer: 0x53, rows: CERTIFICATE },
+    Kind { name: "IRIS", outer: 0x53, rows: &[row(0xBC, values::HEADER_BYTES, MANY, Rule::Iris), CHECKSUM] },
 ];
 
 /// Every kind, in order.

@@ -126,11 +126,16 @@ pub fn records() -> Vec<Record> {
     out
 }
 
-/// Days at an edge, as year, month and day, of each month and of those that would come before the first and after the last.
+/// Days at an edge, as year, month and day.
 pub fn edges_in_numbers() -> Vec<(u64, u64, u64)> {
-    let months = |year| (0..=13).map(move |month| (year, month));
+    edges_of_years(&EDGE_YEARS)
+}
+
+/// Those of these years, of each month and of those that would come before the first and after the last.
+pub fn edges_of_years(years: &[u64]) -> Vec<(u64, u64, u64)> {
+    let months = |&year| (0..=13).map(move |month| (year, month));
     let days = |(year, month)| EDGE_DAYS.map(|day| (year, month, day));
-    EDGE_YEARS.into_iter().flat_map(months).flat_map(days).collect()
+    years.iter().flat_map(months).flat_map(days).collect()
 }
 
 /// The check of a day in each form in which the month is a number: as today, as the expiry of a CHUID, on New Year's Day of that year,

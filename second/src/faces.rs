@@ -1,14 +1,15 @@
 //! Facial records for the samples and the generator: as they should be and damaged. The calls on those at an edge are made in every
 //! run.
 
-use crate::batch::{Call, Record};
-use crate::generate::{any_length, plain, Card, Rng};
-use crate::samples::{face, wrong_fascn, PICTURE};
+use crate::batch::Record;
+use crate::generate::{any_length, Rng};
+use crate::records::{self, check, few, other_lengths, other_part_lengths, saying_length, which, with_bytes, write};
+use crate::samples::{face, PICTURE};
 use crate::values::{
     FACIAL_FORMAT, FACIAL_HEADER_BYTES, FACIAL_INFORMATION_BYTES, FACIAL_VERSION, FEATURE_POINT_BYTES, HEADER_BYTES,
-    HEADER_FASCN, IMAGE_INFORMATION_BYTES,
+    IMAGE_INFORMATION_BYTES,
 };
-use crate::{CONTAINER_MAX, REPORT_MAX};
+use crate::CONTAINER_MAX;
 
 /// An image with all that its block has behind the two numbers at the front, which follow from it.
 #[derive(Clone)]
@@ -83,9 +84,8 @@ pub fn facial(images: &[Image]) -> Vec<u8> {
 
 /// The record that has these blocks and says that they are of so many images. Its length is right.
 pub fn around(images: u16, blocks: &[u8]) -> Vec<u8> {
-    let length = (FACIAL_HEADER_BYTES + blocks.len()) as u32;
-    let header = [&FACIAL_FORMAT[..], &FACIAL_VERSION, &length.to_be_bytes(), &images.to_be_bytes()];
-    [&header.concat(), blocks].concat()
+    let header = records::header(FACIAL_FORMAT, FACIAL_VERSION, FACIAL_HEADER_BYTES + blocks.len(), images);
+    [&header, blocks].concat()
 }
 
 /// The record of one image without feature points, with so many bytes of pixels.
@@ -119,13 +119,6 @@ fn images(rng: &mut Rng) -> Vec<Image> {
         image(rng, points, pixels)
     };
     (0..count).map(|_| one()).collect()
-}
-
-fn few(rng: &mut Rng) -> usize {
-    match rng.below(8) {
-        0..=3 => 0,
-        _ => rng.size(1, 4),
-    }
 }
 
 /// A good one in which all that is free is any.
@@ -179,7 +172,7 @@ pub fn damaged(rng: &mut Rng) -> Vec<u8> {
         9..=11 => with_other_block(rng),
         12 => with_torn_block(rng),
         13 | 14 => with_another_end(rng),
-        _ => rubbish(rng),
+        _ => records::rubbish(rng, PICTURE),
     }
 }
 
@@ -191,16 +184,6 @@ pub const FIELDS: [fn(&mut Image) -> &mut u8; 4] = [
     |image| &mut image.source_type,
 ];
 
-/// One of several images, mostly the last.
-fn which(rng: &mut Rng, images: &[Image]) -> usize {
-    let last = images.len() - 1;
-    if rng.one_in(2) {
-        last
-    } else {
-        rng.size(0, last)
-    }
-}
-
 /// One with another value in a field of an image.
 fn with_other_field(rng: &mut Rng) -> Vec<u8> {
     let mut images = images(rng);
@@ -208,17 +191,6 @@ fn with_other_field(rng: &mut Rng) -> Vec<u8> {
     let field = rng.pick(&FIELDS)(&mut images[at]);
     *field = if rng.one_in(4) { rng.byte() } else { rng.pick(&[0, 1, 2, 3, 5, 6, 7, 0xFF]) };
     facial(&images)
-}
-
-/// The record with these bytes at an offset instead of its own.
-fn with_bytes(mut record: Vec<u8>, at: usize, bytes: &[u8]) -> Vec<u8> {
-    record[at..at + bytes.len()].copy_from_slice(bytes);
-    record
-}
-
-/// The record with this number for its length.
-fn saying_length(record: Vec<u8>, length: u32) -> Vec<u8> {
-    with_bytes(record, 8, &length.to_be_bytes())
 }
 
 /// Formats and versions of other records, and such as are near.
@@ -230,17 +202,7 @@ fn with_other_header(rng: &mut Rng) -> Vec<u8> {
     let images = images(rng);
     let (record, count) = (facial(&images), images.len() as u16);
     match rng.below(8) {
-        0 => with_bytes(record, 0, &rng.pick(&OTHER_FORMATS)),
-        1 => with_bytes(record, 4, &rng.pick(&OTHER_VERSIONS)),
-        2 => {
-            let at = rng.size(0, FACIAL_HEADER_BYTES - 1);
-            let turned = record[at] ^ 1 << rng.below(8);
-            with_bytes(record, at, &[turned])
-        }
-        3 | 4 => {
-            let length = rng.pick(&other_lengths(record.len() as u32));
-            saying_length(record, length)
-        }
+        0..=4 => records::with_other_front(rng, record, FACIAL_HEADER_BYTES, [&OTHER_FORMATS, &OTHER_VERSIONS]),
         5 => around(rng.pick(&[0, 0, 1]), &[]),
         _ => {
             let other = rng.pick(&[0, count - 1, count + 1, count + 2, count ^ 0x100, u16::MAX]);
@@ -249,36 +211,9 @@ fn with_other_header(rng: &mut Rng) -> Vec<u8> {
     }
 }
 
-/// Numbers that are not the length of a record: one off, without the header, and right in so many bits only.
-fn other_lengths(right: u32) -> [u32; 11] {
-    let more = |bit: u32| right + (1 << bit);
-    let header = FACIAL_HEADER_BYTES as u32;
-    [right - 1, right + 1, right - header, right + header, 0, header, u32::MAX, more(8), more(16), more(24), more(31)]
-}
-
-/// Numbers that are not the length of a block which stands at this offset: one off, the least of any block, right in so many bits
-/// only, and such as lead back to the first block and to the record's start in a sum of 32 bits.
-fn other_block_lengths(right: u32, at: usize) -> [u32; 15] {
-    let more = |bit: u32| right + (1 << bit);
-    let back = |bytes: usize| (bytes as u32).wrapping_neg();
-    let least = LEAST_BLOCK as u32;
-    [
-        right - 1,
-        right + 1,
-        right - 8,
-        right + 8,
-        right + least,
-        0,
-        1,
-        least - 1,
-        least,
-        more(16),
-        more(24),
-        more(31),
-        back(at - FACIAL_HEADER_BYTES),
-        back(at),
-        u32::MAX,
-    ]
+/// Numbers that are not the length of a block which stands so far behind the header.
+fn other_block_lengths(right: u32, behind: usize) -> [u32; 15] {
+    other_part_lengths(right, LEAST_BLOCK, behind, FACIAL_HEADER_BYTES)
 }
 
 /// Numbers of feature points, around the most that a block of this length has room for: with the others a sum of 16 bits is small,
@@ -296,7 +231,7 @@ fn with_other_block(rng: &mut Rng) -> Vec<u8> {
     for (i, image) in images.iter().enumerate() {
         let (mut length, mut points) = (image.length(), image.points.len() as u16);
         if i == which && rng.one_in(2) {
-            length = rng.pick(&other_block_lengths(length, FACIAL_HEADER_BYTES + blocks.len()));
+            length = rng.pick(&other_block_lengths(length, blocks.len()));
         } else if i == which {
             points = rng.pick(&other_points(points, length));
         }
@@ -323,31 +258,10 @@ fn with_torn_block(rng: &mut Rng) -> Vec<u8> {
     around(images.len() as u16, &blocks)
 }
 
-/// One with bytes behind its last block, or cut off. The length of the record mostly follows.
+/// One with bytes behind its last block, or cut off.
 fn with_another_end(rng: &mut Rng) -> Vec<u8> {
-    let mut record = record(rng);
-    let right = record.len() as u32;
-    let length = match rng.below(4) {
-        0 => record.len() + rng.pick(&[1, 1, 2, 8, LEAST_BLOCK - 1, LEAST_BLOCK]),
-        1 => record.len() - 1,
-        2 => rng.size(1, LEAST_RECORD),
-        _ => rng.size(1, record.len()),
-    };
-    record.resize(length, 0);
-    if length < FACIAL_HEADER_BYTES {
-        return record;
-    }
-    saying_length(record, if rng.one_in(4) { right } else { length as u32 })
-}
-
-/// Bytes of no record at all: any, zeros, and a picture alone.
-fn rubbish(rng: &mut Rng) -> Vec<u8> {
-    let length = any_length(rng, 1, 4_000);
-    match rng.below(3) {
-        0 => rng.bytes(length),
-        1 => vec![rng.pick(&[0x00, 0x20, 0xFF]); length],
-        _ => PICTURE.to_vec(),
-    }
+    let record = record(rng);
+    records::with_another_end(rng, record, FACIAL_HEADER_BYTES, LEAST_BLOCK)
 }
 
 // ---------------------------------------------------------------------------------------------
@@ -355,34 +269,13 @@ fn rubbish(rng: &mut Rng) -> Vec<u8> {
 
 /// The calls on the records at an edge: a check, and for all but the fields of an image one call more.
 pub fn records() -> Vec<Record> {
-    let mut out: Vec<Record> = edges_of_fields().iter().map(|record| check(&face(100, record, 1))).collect();
-    for (i, record) in other_edges().iter().enumerate() {
-        let card = face(100, record, 1);
-        out.extend([check(&card), another_call(i, &card)]);
-    }
-    out.extend(orders().iter().map(check));
+    let card = |record: &Vec<u8>| face(100, record, 1);
+    let mut out: Vec<Record> = edges_of_fields().iter().map(|record| check(&card(record))).collect();
+    out.extend(records::two_calls(other_edges().iter().map(card)));
+    // -1 is no quality of a face
+    out.extend(records::orders(least(), &broken(), [100, 0xFF], face).iter().map(check));
     out.extend(largest());
     out
-}
-
-/// A check with a room as long as the sheet.
-fn check(card: &Card) -> Record {
-    Record { room: card.sheet().len(), fill: 0xA5, ..plain(Call::Check, card.kind, card.container()) }
-}
-
-/// A write, with a room as long as the container, or as long as any may be.
-fn write(card: &Card) -> Record {
-    let room = card.container().len().min(CONTAINER_MAX);
-    Record { room, fill: 0xA5, ..plain(Call::Write, card.kind, card.sheet()) }
-}
-
-/// A write, a view and a report, in turn.
-fn another_call(i: usize, card: &Card) -> Record {
-    match i % 3 {
-        0 => write(card),
-        1 => Record { element: 0xBC, ..plain(Call::View, card.kind, card.container()) },
-        _ => Record { room: REPORT_MAX, fill: 0xA5, ..plain(Call::Report, card.kind, card.container()) },
-    }
 }
 
 /// Records that conform and others that nearly do.
@@ -392,13 +285,13 @@ pub fn edges() -> Vec<Vec<u8>> {
 
 fn other_edges() -> Vec<Vec<u8>> {
     [
-        edges_of_bytes(),
+        records::with_each_byte(&facial(&two())),
         edges_of_header(),
         edges_of_counts(),
         edges_of_block_lengths(),
         edges_of_points(),
         edges_of_torn_blocks(),
-        edges_of_ends(),
+        records::with_each_end(&facial(&two()), FACIAL_HEADER_BYTES),
         edges_of_rubbish(),
     ]
     .concat()
@@ -424,19 +317,12 @@ fn edges_of_fields() -> Vec<Vec<u8>> {
     out
 }
 
-/// Each byte with its lowest bit turned, its highest, and all: most of them are free.
-fn edges_of_bytes() -> Vec<Vec<u8>> {
-    let record = facial(&two());
-    let turned = |at: usize, bits: u8| with_bytes(record.clone(), at, &[record[at] ^ bits]);
-    (0..record.len()).flat_map(|at| [0x01, 0x80, 0xFF].map(|bits| turned(at, bits))).collect()
-}
-
 /// Another length of the record, and another number of images.
 fn edges_of_header() -> Vec<Vec<u8>> {
     let record = facial(&two());
     let blocks = &record[FACIAL_HEADER_BYTES..];
-    let mut out: Vec<_> =
-        other_lengths(record.len() as u32).iter().map(|&length| saying_length(record.clone(), length)).collect();
+    let lengths = other_lengths(record.len() as u32, FACIAL_HEADER_BYTES);
+    let mut out = lengths.map(|length| saying_length(record.clone(), length)).to_vec();
     out.extend([0, 1, 2, 3, 0x0100, 0x0102, 0x0200, 0x8002, u16::MAX].map(|images| around(images, blocks)));
     out
 }
@@ -468,7 +354,7 @@ fn edges_of_block_lengths() -> Vec<Vec<u8>> {
         for pixels in [0, 8] {
             let image = Image::plain(points, pixels);
             let right = image.length();
-            for length in (right - 10..=right + 2).chain(other_block_lengths(right, FACIAL_HEADER_BYTES)) {
+            for length in (right - 10..=right + 2).chain(other_block_lengths(right, 0)) {
                 out.extend(in_each_place(&image.block_saying(length, points as u16)));
             }
         }
@@ -516,23 +402,6 @@ fn edges_of_torn_blocks() -> Vec<Vec<u8>> {
     out
 }
 
-/// Records that are cut off after each of their bytes, or have up to 40 bytes more; their length follows, or does not.
-fn edges_of_ends() -> Vec<Vec<u8>> {
-    let record = facial(&two());
-    let right = record.len() as u32;
-    let mut out = Vec::new();
-    for length in 1..=record.len() + 40 {
-        let mut other = record.clone();
-        other.resize(length, 0);
-        if length >= FACIAL_HEADER_BYTES {
-            out.push(saying_length(other.clone(), right));
-            other = saying_length(other, length as u32);
-        }
-        out.push(other);
-    }
-    out
-}
-
 /// What issuers send: a text, a picture alone, a minutiae record's header, and a good header with rubbish behind it.
 fn edges_of_rubbish() -> Vec<Vec<u8>> {
     let mut out = vec![b"RUBBISH".to_vec(), PICTURE.to_vec(), [b"FMR\0 200", &[0; 92][..]].concat()];
@@ -541,23 +410,10 @@ fn edges_of_rubbish() -> Vec<Vec<u8>> {
     out
 }
 
-/// Cards with a fault in the header's fields before the FASC-N, in that, in the reserved bytes and in the record, each or not.
-fn orders() -> Vec<Card> {
+/// Records with one fault.
+fn broken() -> [Vec<u8>; 3] {
     let source = Image { source_type: 3, ..Image::plain(0, 0) };
-    let broken = [b"RUBBISH".to_vec(), facial(&[source]), least()[..LEAST_RECORD - 1].to_vec()];
-    let mut out = Vec::new();
-    for record in [least()].iter().chain(&broken) {
-        for faults in 0..8 {
-            let mut card = face(if faults & 1 == 0 { 100 } else { 0xFF }, record, 1);
-            let value = card.rows[0].as_mut().expect("a face has a value");
-            if faults & 2 != 0 {
-                value[HEADER_FASCN].copy_from_slice(&wrong_fascn());
-            }
-            value[87] = u8::from(faults & 4 != 0);
-            out.push(card);
-        }
-    }
-    out
+    [b"RUBBISH".to_vec(), facial(&[source]), least()[..LEAST_RECORD - 1].to_vec()]
 }
 
 /// A BC of so many bytes makes the largest container.

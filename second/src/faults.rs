@@ -6,6 +6,7 @@ use crate::batch::{Call, Record};
 use crate::card::{self, all_kinds, Row, Rule};
 use crate::generate::{conforming_on, lengthened, plain, put_length, value_of};
 use crate::generate::{Card, Form, Forms, Rng, EXAMPLE_DAY};
+use crate::records::with_bytes;
 use crate::{trees, values, REPORT_MAX};
 use std::collections::BTreeSet;
 
@@ -327,7 +328,8 @@ fn broken_values(rule: Rule, value: &[u8]) -> Vec<Vec<u8>> {
         Rule::Text if value.is_empty() => vec![vec![0x1F], vec![0x7F]],
         Rule::Text => [0x1F, 0x7F].map(|byte| [&value[1..], &[byte]].concat()).to_vec(),
         Rule::Fingers => vec![turned(0), turned(fascn), turned(87), turned(values::HEADER_BYTES)],
-        Rule::Face => [vec![turned(0), turned(fascn), turned(87)], broken_records(value)].concat(),
+        Rule::Face => [vec![turned(0), turned(fascn), turned(87)], broken_facial(value)].concat(),
+        Rule::Iris => [vec![turned(0), turned(fascn), turned(87)], broken_iris(value)].concat(),
         Rule::Certificate => vec![turned(0), Vec::new(), trees::down_to(9, 5, &[]).bytes()],
     }
 }
@@ -340,11 +342,31 @@ fn with_bits_turned(value: &[u8], at: usize, bits: u8) -> Vec<u8> {
 
 /// The value of BC with a fault in each field of its facial record that is examined: format, version, length, number of images, and
 /// of the first image the length of its block, type, data type, colour space and source type. With a 2 more or less none is good.
-fn broken_records(value: &[u8]) -> Vec<Vec<u8>> {
+fn broken_facial(value: &[u8]) -> Vec<Vec<u8>> {
     let record = values::HEADER_BYTES;
     let block = record + values::FACIAL_HEADER_BYTES;
     let points = usize::from(u16::from_be_bytes([value[block + 4], value[block + 5]]));
     let image = block + values::FACIAL_INFORMATION_BYTES + values::FEATURE_POINT_BYTES * points;
     let fields = [record + 3, record + 7, record + 11, record + 13, block + 3, image, image + 1, image + 6, image + 7];
     fields.map(|at| with_bits_turned(value, at, 2)).to_vec()
+}
+
+/// The value of BC with a fault in each field of its iris record that is examined: format, version, length, number of representations,
+/// flag and number of eyes, and of the first representation every field but the lowest diameter, with a bit turned that makes it bad
+/// whatever it was; and that.
+fn broken_iris(value: &[u8]) -> Vec<Vec<u8>> {
+    let record = values::HEADER_BYTES;
+    let first = record + values::IRIS_HEADER_BYTES;
+    let blocks = values::QUALITY_BLOCK_BYTES * usize::from(value[first + 18]);
+    let behind = first + values::CAPTURE_BYTES + blocks;
+    let header = [3, 7, 11, 13, 14, 15].map(|at| (record + at, 2));
+    let capture = [(3, 2), (4, 0x80), (6, 0x10), (7, 0x20), (8, 0x20), (9, 0x40), (10, 0x40), (11, 0x80)];
+    let capture = capture.map(|(at, bits)| (first + at, bits));
+    let information = [(1, 2), (2, 2), (3, 2), (4, 2), (5, 0x80), (6, 0x80), (8, 0x80), (10, 2), (18, 2), (20, 2)];
+    let end = [(22, 2), (24, 2), (27, 0x80), (32, 2)];
+    let behind_blocks = information.into_iter().chain(end).map(|(at, bits)| (behind + at, bits));
+    let turned = header.into_iter().chain(capture).chain(behind_blocks);
+    let mut out: Vec<_> = turned.map(|(at, bits)| with_bits_turned(value, at, bits)).collect();
+    out.push(with_bytes(value.to_vec(), behind + 25, &[0, 159]));
+    out
 }

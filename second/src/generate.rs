@@ -2,8 +2,8 @@
 
 use crate::batch::{Call, Record, BYTES_MAX, ROOM_MAX};
 use crate::card::{self, all_kinds, Rule, LAST_KIND, ROWS_MAX};
-use crate::values::{self, fascn_encode, fascn_pack, fascn_values, is_date};
-use crate::{dates, faces, faults, lengths, trees, CONTAINER_MAX, NO_TAG, REPORT_MAX, SHEET_ROOM};
+use crate::values::{self, fascn_encode, fascn_pack, fascn_values, is_date, Format, FACE, FINGERS, IRIS};
+use crate::{dates, faces, faults, irises, lengths, trees, CONTAINER_MAX, NO_TAG, REPORT_MAX, SHEET_ROOM};
 
 /// splitmix64.
 pub struct Rng(u64);
@@ -298,19 +298,18 @@ fn creator(rng: &mut Rng) -> Vec<u8> {
 }
 
 /// A value of BC with these data bytes and a signature of `signature` bytes.
-fn biometric(rng: &mut Rng, face: bool, data: &[u8], signature: usize) -> Vec<u8> {
+fn biometric(rng: &mut Rng, format: &Format, data: &[u8], signature: usize) -> Vec<u8> {
     let mut out = vec![0x03, 0x0D];
     out.extend((data.len() as u32).to_be_bytes());
     out.extend((signature as u16).to_be_bytes());
-    out.extend([0x00, 0x1B]);
-    out.extend(if face { [0x05, 0x01] } else { [0x02, 0x01] });
+    out.extend([format.owner, format.format].concat());
     out.extend(binary_date(rng));
     let (one, other) = (binary_date(rng), binary_date(rng));
     out.extend(one.min(other));
     out.extend(if rng.one_in(8) { one.min(other) } else { one.max(other) });
-    out.extend(if face { [0, 0, 2] } else { [0, 0, 8] });
-    out.push(if face { 0x20 } else { 0x80 } | rng.byte() & 31);
-    let qualities: &[u8] = if face { &[0xFE, 0, 1, 99, 100] } else { &[0xFE, 0xFF, 0, 1, 99, 100] };
+    out.extend(format.biometric_type);
+    out.push(format.data_type << 5 | rng.byte() & 31);
+    let qualities: &[u8] = if format.minus_one { &[0xFE, 0xFF, 0, 1, 99, 100] } else { &[0xFE, 0, 1, 99, 100] };
     out.push(if rng.one_in(2) { rng.pick(qualities) } else { rng.below(101) as u8 });
     out.extend(creator(rng));
     out.extend(fascn(rng));
@@ -347,6 +346,13 @@ fn minutiae(rng: &mut Rng, counts: [usize; 2]) -> Vec<u8> {
         out.extend([0, 0]);
     }
     out
+}
+
+/// A minutiae record of exactly so many bytes, of which there are those of whole minutiae.
+fn minutiae_of(rng: &mut Rng, length: usize) -> Vec<u8> {
+    let points = (length - 38) / 6;
+    let first = rng.size(points.saturating_sub(128), points.min(128));
+    minutiae(rng, [first, points - first])
 }
 
 fn minutiae_count(rng: &mut Rng) -> usize {
@@ -419,18 +425,26 @@ pub fn conforming_on(rng: &mut Rng, kind: u64, today: u64) -> Card {
             Rule::Fingers => {
                 let counts = [minutiae_count(rng), minutiae_count(rng)];
                 let data = minutiae(rng, counts);
-                let signature = any_length(rng, 1, 4_000);
-                biometric(rng, false, &data, signature)
+                signed(rng, &FINGERS, &data)
             }
             Rule::Face => {
                 let data = faces::record(rng);
-                let signature = any_length(rng, 1, 4_000);
-                biometric(rng, true, &data, signature)
+                signed(rng, &FACE, &data)
+            }
+            Rule::Iris => {
+                let data = irises::record(rng);
+                signed(rng, &IRIS, &data)
             }
             Rule::Certificate => trees::certificate(rng),
         }));
     }
     Card { kind, today, rows }
+}
+
+/// A value of BC with these data bytes and a signature of any length.
+fn signed(rng: &mut Rng, format: &Format, data: &[u8]) -> Vec<u8> {
+    let signature = any_length(rng, 1, 4_000);
+    biometric(rng, format, data, signature)
 }
 
 fn policy(rng: &mut Rng) -> Vec<u8> {
@@ -465,14 +479,20 @@ pub fn value_of(rng: &mut Rng, rule: Rule, length: usize) -> Option<Vec<u8>> {
             let data = if record.len() < body { record } else { minutiae(rng, [0, 0]) };
             // a byte of signature at least
             let signature = body.checked_sub(data.len()).filter(|&signature| signature > 0)?;
-            biometric(rng, false, &data, signature)
+            biometric(rng, &FINGERS, &data, signature)
         }
         Rule::Face => {
             // what is left by the least record and a byte of signature
             let spare = body.checked_sub(faces::LEAST_RECORD + 1)?;
             let signature = 1 + rng.size(0, spare.min(20_000));
             let data = faces::record_of(rng, body - signature);
-            biometric(rng, true, &data, signature)
+            biometric(rng, &FACE, &data, signature)
+        }
+        Rule::Iris => {
+            let spare = body.checked_sub(irises::LEAST_RECORD + 1)?;
+            let more = rng.size(0, spare.min(2 * values::IRIS_MOST_BYTES - irises::LEAST_RECORD));
+            let data = irises::record_of(rng, irises::LEAST_RECORD + more);
+            biometric(rng, &IRIS, &data, body - data.len())
         }
         Rule::Certificate => trees::certificate_of(rng, length)?,
         _ => rng.bytes(length),
@@ -522,25 +542,23 @@ pub fn personal_twin(rng: &mut Rng, card: &Card) -> Card {
             Rule::PrintedDate => *value = dates::printed(rng),
             Rule::Text if row.tag != 0x06 => *value = rng.text(value.len()),
             Rule::Fascn => *value = fascn_twin(rng, value),
-            Rule::Fingers | Rule::Face => {
-                let face = row.rule == Rule::Face;
-                let data_length = u32::from_be_bytes([value[2], value[3], value[4], value[5]]) as usize;
-                let data = if face {
-                    faces::record_of(rng, data_length)
-                } else {
-                    let points = (data_length - 38) / 6;
-                    let first = rng.size(points.saturating_sub(128), points.min(128));
-                    minutiae(rng, [first, points - first])
-                };
-                let signature = value.len() - 88 - data_length;
-                let fascn = fascn_twin(rng, &value[values::HEADER_FASCN]);
-                *value = biometric(rng, face, &data, signature);
-                value[values::HEADER_FASCN].copy_from_slice(&fascn);
-            }
+            Rule::Fingers => *value = biometric_twin(rng, &FINGERS, value, minutiae_of),
+            Rule::Face => *value = biometric_twin(rng, &FACE, value, faces::record_of),
+            Rule::Iris => *value = biometric_twin(rng, &IRIS, value, irises::record_of),
             Rule::Certificate => *value = trees::twin(rng, value),
             Rule::Exactly(_) | Rule::Expiry | Rule::Policy | Rule::Text => (),
         }
     }
+    twin
+}
+
+/// A value of BC with the same lengths, agency and system, and with another record of its length, as `record` makes it.
+fn biometric_twin(rng: &mut Rng, format: &Format, value: &[u8], record: fn(&mut Rng, usize) -> Vec<u8>) -> Vec<u8> {
+    let data_length = u32::from_be_bytes([value[2], value[3], value[4], value[5]]) as usize;
+    let data = record(rng, data_length);
+    let fascn = fascn_twin(rng, &value[values::HEADER_FASCN]);
+    let mut twin = biometric(rng, format, &data, value.len() - 88 - data_length);
+    twin[values::HEADER_FASCN].copy_from_slice(&fascn);
     twin
 }
 
@@ -711,11 +729,11 @@ fn damage_header(rng: &mut Rng, bc: &mut Vec<u8>) {
             set_lengths(bc, data, signature);
         }
         10 => {
-            let at = rng.size(8, 9);
-            bc[at] = rng.pick(&[0x00, 0x1A, 0x1B, 0x1C, 0x01]);
+            let owner = rng.pick(&[[0x00, 0x1B], [0x01, 0x01], [0x00, 0x1A], [0x00, 0x1C], [0x01, 0x1B], [0x00, 0x01]]);
+            bc[8..10].copy_from_slice(&owner);
         }
         11 => {
-            let format = rng.pick(&[[2, 1], [5, 1], [2, 2], [1, 2], [0, 1], [2, 0], [8, 1]]);
+            let format = rng.pick(&[[2, 1], [5, 1], [0, 9], [2, 2], [1, 2], [0, 1], [2, 0], [8, 1], [9, 0], [1, 9]]);
             bc[10..12].copy_from_slice(&format);
         }
         12 => damage_binary_date(rng, &mut bc[12..20]),
@@ -743,7 +761,7 @@ fn damage_header(rng: &mut Rng, bc: &mut Vec<u8>) {
             bc[at] = rng.pick(&[0, 1, 2, 8, 0x10, 0x0A, 0x80]);
         }
         17 => {
-            let other = rng.pick(&[[0, 0, 2], [0, 0, 8], [0, 8, 0], [2, 0, 0]]);
+            let other = rng.pick(&[[0, 0, 2], [0, 0, 8], [0, 0, 0x10], [0, 8, 0], [2, 0, 0], [0x10, 0, 0]]);
             bc[36..39].copy_from_slice(&other);
         }
         18 => bc[39] = (rng.below(8) as u8) << 5 | bc[39] & 31,
@@ -813,7 +831,7 @@ fn damage_minutiae(rng: &mut Rng, bc: &mut Vec<u8>) {
         ]);
         let record = minutiae(rng, counts);
         let signature = rng.size(1, 4);
-        *bc = biometric(rng, false, &record, signature);
+        *bc = biometric(rng, &FINGERS, &record, signature);
         return;
     }
     let record = &mut bc[88..88 + data];
@@ -923,8 +941,18 @@ fn damage_minutiae(rng: &mut Rng, bc: &mut Vec<u8>) {
     }
 }
 
-/// Puts a damaged facial record into BC, whose data length follows.
+/// Puts a damaged facial record into BC.
 fn damage_facial(rng: &mut Rng, bc: &mut Vec<u8>) {
+    put_record(bc, faces::damaged(rng));
+}
+
+/// Puts a damaged iris record into BC.
+fn damage_iris(rng: &mut Rng, bc: &mut Vec<u8>) {
+    put_record(bc, irises::damaged(rng));
+}
+
+/// Puts another record into BC, whose data length follows.
+fn put_record(bc: &mut Vec<u8>, record: Vec<u8>) {
     if bc.len() < 88 {
         return;
     }
@@ -932,10 +960,22 @@ fn damage_facial(rng: &mut Rng, bc: &mut Vec<u8>) {
     if bc.len() <= 88 + data {
         return;
     }
-    let record = faces::damaged(rng);
     let signature = u16::from_be_bytes([bc[6], bc[7]]);
     set_lengths(bc, record.len() as u32, signature);
     bc.splice(88..88 + data, record);
+}
+
+/// Damages the header of BC or its record, and rarely both.
+fn damage_biometric(rng: &mut Rng, bc: &mut Vec<u8>, damage_record: fn(&mut Rng, &mut Vec<u8>)) {
+    if rng.one_in(2) {
+        damage_header(rng, bc);
+    } else {
+        damage_record(rng, bc);
+    }
+    if rng.one_in(20) {
+        damage_record(rng, bc);
+        damage_header(rng, bc);
+    }
 }
 
 /// Damages one value of the card, or its length or presence.
@@ -1021,18 +1061,9 @@ fn damage_value(rng: &mut Rng, card: &mut Card) {
                 }
             },
             Rule::Text => damage_text(rng, value),
-            rule @ (Rule::Fingers | Rule::Face) => {
-                let damage_record = if rule == Rule::Face { damage_facial } else { damage_minutiae };
-                if rng.one_in(2) {
-                    damage_header(rng, value);
-                } else {
-                    damage_record(rng, value);
-                }
-                if rng.one_in(20) {
-                    damage_record(rng, value);
-                    damage_header(rng, value);
-                }
-            }
+            Rule::Fingers => damage_biometric(rng, value, damage_minutiae),
+            Rule::Face => damage_biometric(rng, value, damage_facial),
+            Rule::Iris => damage_biometric(rng, value, damage_iris),
             Rule::Certificate => trees::damage(rng, value),
         },
     }
@@ -1428,8 +1459,8 @@ fn view_tag(rng: &mut Rng, kind: u64) -> u64 {
     }
 }
 
-/// How often each kind is made, beside the others. The last four have one table.
-const SHARES: [u64; LAST_KIND as usize] = [2, 3, 2, 2, 1, 4, 2, 2, 1, 1, 1];
+/// How often each kind is made, beside the others. Those with a certificate, 8 to 11, have one table.
+const SHARES: [u64; LAST_KIND as usize] = [2, 3, 2, 2, 1, 4, 2, 2, 1, 1, 1, 2];
 
 fn any_kind(rng: &mut Rng) -> u64 {
     let mut left = rng.below(SHARES.iter().sum());
@@ -1701,7 +1732,6 @@ pub fn example_chuid(expiry: &[u8; 8]) -> Vec<u8> {
 
 /// A conforming container that is as small as its kind allows, or nearly so.
 pub fn small(kind: u64) -> Vec<u8> {
-    let mut rng = Rng::new(kind);
     match kind {
         1 => Card {
             kind,
@@ -1725,19 +1755,22 @@ pub fn small(kind: u64) -> Vec<u8> {
         }
         5 => vec![0x53, 0x08, 0xBA, 0x01, 0x07, 0xBB, 0x01, 0x09, 0xFE, 0x00],
         6 => {
-            let data = minutiae(&mut rng, [1, 0]);
-            let bc = biometric(&mut rng, false, &data, 1);
-            Card { kind, today: EXAMPLE_DAY, rows: vec![Some(bc), Some(Vec::new())] }.container()
+            let data = minutiae(&mut Rng::new(kind), [1, 0]);
+            small_biometric(kind, &FINGERS, &data)
         }
-        7 => {
-            let bc = biometric(&mut rng, true, &faces::least(), 1);
-            Card { kind, today: EXAMPLE_DAY, rows: vec![Some(bc), Some(Vec::new())] }.container()
-        }
+        7 => small_biometric(kind, &FACE, &faces::least()),
         8 => certificate_card(kind, trees::least().bytes(), None).container(),
         9 => certificate_card(kind, trees::down_to(8, 5, &[]).bytes(), Some(0)).container(),
         10 => certificate_card(kind, trees::down_to(4, 4, &[0x30; 128]).bytes(), Some(1)).container(),
-        _ => certificate_card(kind, trees::skeleton().bytes(), None).container(),
+        11 => certificate_card(kind, trees::skeleton().bytes(), None).container(),
+        _ => small_biometric(kind, &IRIS, &irises::least()),
     }
+}
+
+/// The container of a biometric with these data and a byte of signature.
+fn small_biometric(kind: u64, format: &Format, data: &[u8]) -> Vec<u8> {
+    let bc = biometric(&mut Rng::new(kind), format, data, 1);
+    Card { kind, today: EXAMPLE_DAY, rows: vec![Some(bc), Some(Vec::new())] }.container()
 }
 
 /// A card with a certificate, and with so many bytes of 72 if it has any.
@@ -1841,7 +1874,7 @@ fn fixed_records() -> Vec<Record> {
         for element in [0x5F, 0x2F, 0x5F2F, 0xFE, 0, NO_TAG, u64::MAX] {
             out.push(Record { element, ..plain(Call::View, kind, container.clone()) });
         }
-        if matches!(kind, 6 | 7) {
+        if matches!(kind, 6 | 7 | 12) {
             for quality in [0xFD, 0xFE, 0xFF, 0x00, 0x64, 0x65, 0x7F, 0x80] {
                 let mut bytes = container.clone();
                 let header = bytes.iter().position(|&byte| byte == 0xBC).unwrap_or(0) + 3;
@@ -1867,6 +1900,7 @@ fn fixed_records() -> Vec<Record> {
     out.extend(fixed_certificates());
     out.extend(dates::records());
     out.extend(faces::records());
+    out.extend(irises::records());
     out.extend(faults::records());
     out.extend(lengths::records());
     out

@@ -10,8 +10,10 @@ pub mod der;
 pub mod faces;
 pub mod faults;
 pub mod generate;
+pub mod irises;
 pub mod lengths;
 pub mod named;
+pub mod records;
 pub mod report;
 pub mod samples;
 pub mod trees;
@@ -49,9 +51,10 @@ pub mod number {
     pub const DER: u64 = 24;
     pub const TOO_DEEP: u64 = 25;
     pub const FACE_RECORD: u64 = 26;
+    pub const IRIS_RECORD: u64 = 27;
 
     /// The last of them.
-    pub const LAST: u64 = FACE_RECORD;
+    pub const LAST: u64 = IRIS_RECORD;
 }
 
 /// A container has at most this many bytes.

@@ -5,12 +5,14 @@ use crate::batch::{Answer, Call, Record};
 use crate::card::{Verdict, CONFORMS};
 use crate::faces::{facial, least, with_pixels};
 use crate::generate::{Card, EXAMPLE_DAY, EXAMPLE_DISCOVERY, EXAMPLE_FASCN};
-use crate::samples::{card, ccc, certificate, chuid, discovery, face, fingers, printed, security, wrong_fascn};
-use crate::samples::{portrait, COMPRESSED, P256, RSA, UUID};
+use crate::irises::{iris_record, least as least_iris};
+use crate::samples::{card, ccc, certificate, chuid, discovery, face, fingers, iris, printed, security, wrong_fascn};
+use crate::samples::{eye, eyes, portrait, COMPRESSED, P256, RSA, UUID};
 use crate::{CONTAINER_MAX, SHEET_ROOM};
 
 mod dates;
 mod faces;
+mod irises;
 mod lengths;
 mod tags;
 
@@ -35,6 +37,7 @@ pub fn all() -> Vec<Group> {
         lengths::all(),
         dates::all(),
         faces::all(),
+        irises::all(),
         views(),
         reports(),
     ]
@@ -150,12 +153,17 @@ const PRINTED_DATE: &[u8] = b"2030JAN31";
 /// The smallest SECURITY.
 const SMALL: [u8; 8] = [0x53, 6, 0xBA, 0, 0xBB, 0, 0xFE, 0];
 
-/// Bytes that are no facial record.
+/// Bytes that are no record.
 const RUBBISH: [u8; 300] = [0xFF; 300];
 
 /// A FACE with the portrait.
 fn portrait_face() -> Card {
     face(100, &facial(&[portrait()]), 40)
+}
+
+/// An IRIS with the pictures of two eyes.
+fn eyes_iris() -> Card {
+    iris(100, &eyes(), 40)
 }
 
 /// Case R.
@@ -225,10 +233,89 @@ fn fascns() -> Vec<Group> {
 // ---------------------------------------------------------------------------------------------
 // Biometric records
 
+/// A container of the worked cases with these fields from the format's owner to the data type and this FASC-N, these reserved bytes
+/// and this record. The quality is FE, and the signature has three bytes.
+fn case_of(kind: u64, head: &[u8], fascn: &[u8; 25], reserved: [u8; 4], record: &[u8]) -> Vec<u8> {
+    let data = (record.len() as u32).to_be_bytes();
+    let header = [&[0x03, 0x0D], &data[..], &[0, 3], head, &[0xFE], b"MAKER", &[0; 13], fascn, &reserved];
+    card(kind, &[Some(&[&header.concat(), record, b"SIG"].concat()), Some(&[])]).container()
+}
+
+/// The fields of a header from the owner to the data type, with the three dates of the worked cases.
+fn head_of(owner_and_format: [u8; 4], type_and_data_type: [u8; 4]) -> Vec<u8> {
+    let moment = [0x14, 0x1A, 0x03, 0x01, 0x0A, 0x1E, 0x3B, 0x5A];
+    [&owner_and_format, &moment.repeat(3)[..], &type_and_data_type].concat()
+}
+
+/// A biometric that is checked, and whose sheet is written, in rooms that suffice. The count of BC is the first of the sheet.
+fn both_calls(card: &Card, number: u64) -> [Case; 2] {
+    checked_and_written(card, number, 0xBC, [first_place(&card.container()), 0])
+}
+
+/// The biometric with this byte at the end of its FASC-N, and this one at the end of the reserved bytes.
+fn with_ends(mut card: Card, fascn: u8, reserved: u8) -> Card {
+    let value = card.rows[0].as_mut().expect("a BC");
+    value[83] = fascn;
+    value[87] = reserved;
+    card
+}
+
+/// 21 of a field of the header, 17, 21 of the reserved bytes and this number in one BC: each alone, each pair, and all of them. The
+/// card is made with a quality, of which this one is a fault.
+fn order_in_header(card: impl Fn(u8) -> Card, quality: u8, number: u64) -> Vec<Case> {
+    let both = |quality, fascn, reserved, number| both_calls(&with_ends(card(quality), fascn, reserved), number);
+    [
+        both(100, 0xEB, 0, number),
+        both(quality, 0xEB, 0, 21),
+        both(100, 0xEA, 0, 17),
+        both(100, 0xEB, 1, 21),
+        both(quality, 0xEA, 0, 21),
+        both(100, 0xEA, 1, 17),
+        both(quality, 0xEB, 1, 21),
+        both(quality, 0xEA, 1, 21),
+    ]
+    .concat()
+}
+
+/// 11, 12, 16 and 21 of the lengths come before the number of a record, and that before all that is wrong behind BC. The card has a
+/// record of seven bytes that is none, and one byte of signature.
+fn order_around_record(card: &Card, number: u64) -> Vec<Case> {
+    // BC of 96 bytes; it stands at 2, and what follows it at 100
+    let bc = card.rows[0].clone().unwrap_or_default();
+    let with = |length: u8, value: &[u8], end: &[u8], number| {
+        let content = [&[0xBC, length], value, end].concat();
+        check(card.kind, &[&[0x53, content.len() as u8], &content[..]].concat(), (number, 2, Some(0xBC)))
+    };
+    let mut no_data = bc.clone();
+    no_data[5] = 0;
+    let mut other_length = bc.clone();
+    other_length[5] = 8;
+    vec![
+        with(96, &bc, &[0xFE, 0], number),
+        with(96, &bc, &[], number),
+        with(96, &bc, &[0xFE, 1, 0], number),
+        with(96, &bc, &[0xBC, 0, 0xFE, 0], number),
+        with(96, &bc, &[0x00], number),
+        with(96, &bc, &[0xFE], number),
+        with(0x80, &bc, &[0xFE, 0], 11),
+        with(99, &bc, &[0xFE, 0], 12),
+        with(87, &bc[..87], &[0xFE, 0], 16),
+        with(95, &bc[..95], &[0xFE, 0], 21),
+        with(96, &no_data, &[0xFE, 0], 21),
+        with(96, &other_length, &[0xFE, 0], 21),
+    ]
+}
+
+/// The minutiae record of a card with FINGERS.
+fn minutiae_of(card: Card) -> Vec<u8> {
+    card.rows[0].as_ref().expect("a BC")[88..].split_last().expect("a signature").1.to_vec()
+}
+
 fn biometrics() -> Vec<Group> {
     let at_bc = |number, place| if number == 0 { CONFORMS } else { (number, place, Some(0xBC)) };
     let fingers_of = |quality, number| check(6, &fingers(quality, b'0', [0, 0]).container(), at_bc(number, 3));
     let face_of = |quality, number| check(7, &face(quality, &least(), 1).container(), at_bc(number, 3));
+    let iris_of = |quality, number| check(12, &iris(quality, &least_iris(), 1).container(), at_bc(number, 3));
     let views = |counts| check(6, &fingers(100, b'0', counts).container(), CONFORMS);
     let value_of = |record: &[u8]| face(100, record, 1).rows[0].clone().unwrap_or_default();
     let (of_one_byte, of_least) = (value_of(&[0xFF]), value_of(&least()));
@@ -242,6 +329,10 @@ fn biometrics() -> Vec<Group> {
         (
             "quality FD, FE, FF, 64, 65 in FACE",
             [(0xFD, 21), (0xFE, 0), (0xFF, 21), (0x64, 0), (0x65, 21)].map(|(q, number)| face_of(q, number)).to_vec(),
+        ),
+        (
+            "quality FD, FE, FF, 64, 65 in IRIS",
+            [(0xFD, 21), (0xFE, 0), (0xFF, 0), (0x64, 0), (0x65, 21)].map(|(q, number)| iris_of(q, number)).to_vec(),
         ),
         ("FINGERS with 0 and with 128 minutiae in a view", vec![views([0, 0]), views([128, 128]), views([0, 128])]),
         (
@@ -524,8 +615,13 @@ fn limits() -> Vec<Group> {
             ],
         ),
         (
-            "kind 0, 12 and the largest number",
-            vec![check(0, &SMALL, alone(1)), check(12, &SMALL, alone(1)), check(u64::MAX, &SMALL, alone(1))],
+            "kind 0, 13 and the largest number; 12 is one",
+            vec![
+                check(0, &SMALL, alone(1)),
+                check(13, &SMALL, alone(1)),
+                check(u64::MAX, &SMALL, alone(1)),
+                check(12, &SMALL, (13, 2, Some(0xBA))),
+            ],
         ),
         (
             "today 0, 20230229, 10101, 99991231, 99999999 and the largest number, SECURITY",
@@ -544,7 +640,7 @@ fn conforms(card: Card) -> [Case; 2] {
 fn conforming() -> Vec<Group> {
     vec![
         (
-            "one of every kind: CCC, CHUID, DISCOVERY, PRINTED, SECURITY, FINGERS, FACE, and certificates",
+            "one of every kind: CCC, CHUID, DISCOVERY, PRINTED, SECURITY, FINGERS, FACE, certificates, and IRIS",
             [
                 conforms(ccc(0x10)),
                 conforms(case_r()),
@@ -557,6 +653,7 @@ fn conforming() -> Vec<Group> {
                 conforms(certificate(9, P256, 0, None)),
                 conforms(certificate(10, P256, 0, Some(&[1]))),
                 conforms(certificate(11, &LEAST, 0, None)),
+                conforms(eyes_iris()),
             ]
             .concat(),
         ),
@@ -654,6 +751,7 @@ fn there_and_back() -> Vec<Group> {
         group("DIGSIG checked and written", certificate(9, P256, 0, Some(&[]))),
         group("KEYMGMT checked and written", certificate(10, &LEVEL_8, 0, Some(&[0x41; 38]))),
         group("CARDAUTH checked and written", certificate(11, &LEAST, 0, None)),
+        group("IRIS checked and written", iris(100, &least_iris(), 4)),
     ]
 }
 
@@ -744,6 +842,8 @@ fn broken_into_rooms() -> Group {
             breaks(certificate(9, &LEVEL_9, 0, None), 25, 2, Some(0x70)),
             breaks(certificate(10, &LEAST, 1, None), 20, 12, Some(0x71)),
             breaks(certificate(11, &LEAST, 0, Some(&[0x41; 39])), 16, 15, Some(0x72)),
+            breaks(iris(0xFD, &least_iris(), 40), 21, 3, Some(0xBC)),
+            breaks(iris(100, &RUBBISH, 40), 27, 4, Some(0xBC)),
         ]
         .concat(),
     )
@@ -759,7 +859,8 @@ fn refused_into_rooms() -> Group {
          each with rooms of 0, 1, 60 and 32,774 bytes",
         [
             refuses(0, EXAMPLE_DAY, &SMALL, 1),
-            refuses(12, 20260229, &too_large, 1),
+            refuses(13, 20260229, &too_large, 1),
+            refuses(12, 20260229, &too_large, 2),
             refuses(5, 20260229, &SMALL, 2),
             refuses(2, 20260229, &too_large, 2),
             refuses(2, EXAMPLE_DAY, &too_large, 4),
@@ -821,10 +922,10 @@ fn refused_sheets() -> Vec<Group> {
             ],
         ),
         (
-            "a container over 32,768 bytes to be written (4 before 3), kind 12, no date",
+            "a container over 32,768 bytes to be written (4 before 3), kind 13, no date",
             vec![
                 write(2, &chuid(&EXAMPLE_FASCN, EXPIRES, &[7; 33_000]).sheet(), 10, Err(alone(4))),
-                write(12, &sheet, 10, Err(alone(1))),
+                write(13, &sheet, 10, Err(alone(1))),
                 on(20260230, write(2, &sheet, 10, Err(alone(2)))),
             ],
         ),
@@ -999,10 +1100,18 @@ fn reports() -> Vec<Group> {
             certificate(11, &LEAST, 0, Some(&[0x41; 39])),
             "16 15 72",
         ),
+        pair(
+            "IRIS reported, conforming and broken",
+            iris(100, &least_iris(), 4),
+            &format!("ELEMENTS 2\nBC 160\nFE 0\n{}", agency),
+            iris(100, &RUBBISH, 40),
+            "27 4 BC",
+        ),
         (
-            "report refused: kind 0, no date, and a container of 32,769 bytes; the room is judged before that",
+            "report refused: kinds 0 and 13, no date, and a container of 32,769 bytes; the room is judged before that",
             vec![
                 report(0, &SMALL, 512, Err(1)),
+                report(13, &SMALL, 512, Err(1)),
                 on(20230229, report(5, &SMALL, 512, Err(2))),
                 report(2, &too_large, 512, Err(4)),
                 report(2, &too_large, 100, Err(3)),

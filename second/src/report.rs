@@ -175,7 +175,7 @@ where
             page.bytes(value(0x06));
             page.end_line();
         }
-        6 | 7 => {
+        6 | 7 | 12 => {
             page.text("OPEN 2\n");
             agency_and_system(page, &value(0xBC)[values::HEADER_FASCN]);
         }

@@ -3,6 +3,8 @@
 
 use crate::faces::{facial, Image};
 use crate::generate::{Card, Form, Forms, EXAMPLE_DAY, EXAMPLE_FASCN};
+use crate::irises::{iris_record, with_flag_and_eyes, Representation};
+use crate::values::{Format, FACE, FINGERS, IRIS};
 use crate::{report, trees, REPORT_MAX};
 
 pub struct Sample {
@@ -46,15 +48,16 @@ pub fn security(mapping: &[u8], object: &[u8]) -> Card {
     card(5, &[Some(mapping), Some(object), Some(&[])])
 }
 
-/// A biometric record: the header, the data, the signature. Format, type and data type are those of the kind.
-fn biometric(kind: u64, [format, sort, data_type]: [u8; 3], quality: u8, data: &[u8], signature: &[u8]) -> Card {
+/// A biometric record: the header, the data, the signature.
+fn biometric(kind: u64, format: &Format, quality: u8, data: &[u8], signature: &[u8]) -> Card {
     let moment = [20, 26, 1, 1, 0, 0, 0, b'Z'];
     let mut value = vec![0x03, 0x0D];
     value.extend((data.len() as u32).to_be_bytes());
     value.extend((signature.len() as u16).to_be_bytes());
-    value.extend([0x00, 0x1B, format, 0x01]);
+    value.extend([format.owner, format.format].concat());
     value.extend([moment, moment, moment].concat());
-    value.extend([0, 0, sort, data_type, quality]);
+    value.extend(format.biometric_type);
+    value.extend([format.data_type << 5, quality]);
     value.extend([0; 18]);
     value.extend(EXAMPLE_FASCN);
     value.extend([0; 4]);
@@ -77,12 +80,17 @@ pub fn fingers(quality: u8, last_of_version: u8, counts: [u8; 2]) -> Card {
         data.extend(minutia.repeat(usize::from(count)));
         data.extend([0, 0]);
     }
-    biometric(6, [0x02, 0x08, 0x80], quality, &data, &[0x30])
+    biometric(6, &FINGERS, quality, &data, &[0x30])
 }
 
 /// A face with these data, which should be a facial record, and so many bytes of signature.
 pub fn face(quality: u8, record: &[u8], signature: usize) -> Card {
-    biometric(7, [0x05, 0x02, 0x20], quality, record, &vec![0x30; signature])
+    biometric(7, &FACE, quality, record, &vec![0x30; signature])
+}
+
+/// An iris with these data, which should be an iris record, and so many bytes of signature.
+pub fn iris(quality: u8, record: &[u8], signature: usize) -> Card {
+    biometric(12, &IRIS, quality, record, &vec![0x30; signature])
 }
 
 /// A drawn face of 240 by 320 pixels in JPEG 2000, made once with opj_compress.
@@ -100,6 +108,28 @@ pub fn portrait() -> Image {
         pixels: PICTURE.to_vec(),
         ..Image::plain(0, 0)
     }
+}
+
+/// A drawn eye of 320 by 240 pixels in JPEG 2000, made likewise. The iris is 200 pixels wide, and its middle is the picture's.
+pub const EYE: &[u8] = include_bytes!("pictures/iris.jp2");
+
+/// The picture as the representation with this number, which is the eye's label too. It has a quality block: 80, by the algorithm 1
+/// of the vendor 1.
+pub fn eye(number: u16) -> Representation {
+    Representation {
+        device: [0; 5],
+        blocks: vec![[80, 0, 1, 0, 1]],
+        label: number as u8,
+        range_and_roll: [0; 6],
+        diameter: [196, 200],
+        image: EYE.to_vec(),
+        ..Representation::plain(number, 0, 0).sized(320, 240)
+    }
+}
+
+/// The record of two eyes.
+pub fn eyes() -> Vec<u8> {
+    with_flag_and_eyes(iris_record(&[eye(1), eye(2)]), 0, 2)
 }
 
 /// A certificate of an RSA key with the extensions of a PIV card, made once with openssl. The holder is invented and signed it
@@ -168,6 +198,12 @@ pub fn all() -> Vec<Sample> {
         sample("cardauth", certificate(11, &trees::least().bytes(), 0, Some(&[]))),
         // a byte more in 72 than there may be
         sample("cardauth-broken", certificate(11, &trees::least().bytes(), 0, Some(&[0x41; 39]))),
+        sample("iris", iris(100, &eyes(), 40)),
+        // the middle of an even size is two numbers, and not the first of them twice
+        sample(
+            "iris-broken",
+            iris(100, &iris_record(&[Representation { centre: [160, 160, 120, 120], ..eye(1) }]), 40),
+        ),
     ]
 }
 

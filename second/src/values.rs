@@ -1,4 +1,4 @@
-//! The rules on single values: FASC-N, UUID, dates, policy, text, CBEFF header, minutiae, facial records, certificates.
+//! The rules on single values: FASC-N, UUID, dates, policy, text, CBEFF header, minutiae, facial and iris records, certificates.
 
 use crate::{der, number};
 
@@ -216,7 +216,7 @@ pub fn is_text(bytes: &[u8]) -> bool {
 }
 
 // ---------------------------------------------------------------------------------------------
-// CBEFF header, minutiae and facial records
+// CBEFF header, minutiae, facial and iris records
 
 pub const HEADER_BYTES: usize = 88;
 /// Where the FASC-N stands in the header.
@@ -237,14 +237,82 @@ pub const FEATURE_POINT_BYTES: usize = 8;
 /// What it has behind them: type, data type, width, height, colour space, source type, device type and quality. Pixels follow.
 pub const IMAGE_INFORMATION_BYTES: usize = 12;
 
+/// Section 9.7 of document 004. The layout of an iris record is that of ISO/IEC 19794-6:2011.
+pub const IRIS_FORMAT: [u8; 4] = [0x49, 0x49, 0x52, 0x00];
+pub const IRIS_VERSION: [u8; 4] = [0x30, 0x32, 0x30, 0x00];
+/// Format, version, record length, number of representations, certification flag and number of eyes.
+pub const IRIS_HEADER_BYTES: usize = 16;
+/// A record has at most so many bytes for each of its representations.
+pub const IRIS_MOST_BYTES: usize = 3_072;
+/// What a representation has before its quality blocks: its length, when and with what it was captured, and their number.
+pub const CAPTURE_BYTES: usize = 19;
+pub const QUALITY_BLOCK_BYTES: usize = 5;
+/// What it has behind them: its number, what the image is and how large, and where in it the iris is. The image follows.
+pub const IRIS_INFORMATION_BYTES: usize = 33;
+
+/// What differs from one biometric to the other: fields of the header, and the record behind it.
+pub struct Format {
+    pub owner: [u8; 2],
+    pub format: [u8; 2],
+    pub biometric_type: [u8; 3],
+    /// The top three bits of the data type.
+    pub data_type: u8,
+    /// Whether a quality of -1 is kept.
+    pub minus_one: bool,
+    is_record: fn(&[u8]) -> bool,
+    /// That of a record that breaks a rule.
+    number: u64,
+}
+
+pub static FINGERS: Format = Format {
+    owner: [0x00, 0x1B],
+    format: [0x02, 0x01],
+    biometric_type: [0x00, 0x00, 0x08],
+    data_type: 0b100,
+    minus_one: true,
+    is_record: is_minutiae,
+    number: number::MINUTIAE,
+};
+
+pub static FACE: Format = Format {
+    owner: [0x00, 0x1B],
+    format: [0x05, 0x01],
+    biometric_type: [0x00, 0x00, 0x02],
+    data_type: 0b001,
+    minus_one: false,
+    is_record: is_facial,
+    number: number::FACE_RECORD,
+};
+
+pub static IRIS: Format = Format {
+    owner: [0x01, 0x01],
+    format: [0x00, 0x09],
+    biometric_type: [0x00, 0x00, 0x10],
+    data_type: 0b010,
+    minus_one: true,
+    is_record: is_iris,
+    number: number::IRIS_RECORD,
+};
+
+fn two_at(bytes: &[u8], at: usize) -> u16 {
+    u16::from_be_bytes([bytes[at], bytes[at + 1]])
+}
+
+fn four_at(bytes: &[u8], at: usize) -> u32 {
+    u32::from_be_bytes([bytes[at], bytes[at + 1], bytes[at + 2], bytes[at + 3]])
+}
+
+/// Hour, minute and second.
+fn is_time(bytes: &[u8]) -> bool {
+    bytes[0] <= 23 && bytes[1] <= 59 && bytes[2] <= 59
+}
+
 /// Century, year, month, day, hour, minute, second, and 5A.
 fn is_binary_date(bytes: &[u8]) -> bool {
     bytes[0] <= 99
         && bytes[1] <= 99
         && is_calendar_day(u64::from(bytes[0]) * 100 + u64::from(bytes[1]), u64::from(bytes[2]), u64::from(bytes[3]))
-        && bytes[4] <= 23
-        && bytes[5] <= 59
-        && bytes[6] <= 59
+        && is_time(&bytes[4..7])
         && bytes[7] == 0x5A
 }
 
@@ -255,33 +323,31 @@ fn is_creator(bytes: &[u8]) -> bool {
     }
 }
 
-fn is_quality(byte: u8, face: bool) -> bool {
+fn is_quality(byte: u8, minus_one: bool) -> bool {
     let quality = byte as i8;
-    (-2..=100).contains(&quality) && !(face && quality == -1)
+    (-2..=100).contains(&quality) && (minus_one || quality != -1)
 }
 
-/// The rules on the value of BC, which has at least 88 bytes: 0, or 21, 17, and then 22 or 26.
-pub fn biometric(value: &[u8], face: bool) -> u64 {
+/// The rules on the value of BC, which has at least 88 bytes: 0, or 21, 17, and then the number of the format's record.
+pub fn biometric(value: &[u8], format: &Format) -> u64 {
     let (header, body) = value.split_at(HEADER_BYTES);
-    let data_length = u64::from(u32::from_be_bytes([header[2], header[3], header[4], header[5]]));
-    let signature_length = u64::from(u16::from_be_bytes([header[6], header[7]]));
-    let (format, biometric_type, data_type) =
-        if face { ([5, 1], [0, 0, 2], 0b001) } else { ([2, 1], [0, 0, 8], 0b100) };
+    let data_length = u64::from(four_at(header, 2));
+    let signature_length = u64::from(two_at(header, 6));
 
     let before_fascn = header[0] == 0x03
         && header[1] == 0x0D
         && data_length != 0
         && signature_length != 0
         && data_length + signature_length == body.len() as u64
-        && header[8..10] == [0x00, 0x1B]
-        && header[10..12] == format
+        && header[8..10] == format.owner
+        && header[10..12] == format.format
         && is_binary_date(&header[12..20])
         && is_binary_date(&header[20..28])
         && is_binary_date(&header[28..36])
         && header[20..27] <= header[28..35]
-        && header[36..39] == biometric_type
-        && header[39] >> 5 == data_type
-        && is_quality(header[40], face)
+        && header[36..39] == format.biometric_type
+        && header[39] >> 5 == format.data_type
+        && is_quality(header[40], format.minus_one)
         && is_creator(&header[41..59]);
     if !before_fascn {
         return number::HEADER;
@@ -292,13 +358,10 @@ pub fn biometric(value: &[u8], face: bool) -> u64 {
     if header[84..88] != [0; 4] {
         return number::HEADER;
     }
-    let data = &body[..data_length as usize];
-    let (good, number) =
-        if face { (is_facial(data), number::FACE_RECORD) } else { (is_minutiae(data), number::MINUTIAE) };
-    if good {
+    if (format.is_record)(&body[..data_length as usize]) {
         number::DONE
     } else {
-        number
+        format.number
     }
 }
 
@@ -310,7 +373,7 @@ fn is_minutiae(record: &[u8]) -> bool {
     let (header, views) = record.split_at(26);
     let header_good = header[..4] == MINUTIAE_FORMAT
         && header[4..8] == MINUTIAE_VERSION
-        && usize::from(u16::from_be_bytes([header[8], header[9]])) == record.len()
+        && usize::from(two_at(header, 8)) == record.len()
         && header[20..24] == [0, 197, 0, 197]
         && header[24] == 2
         && header[25] == 0;
@@ -350,11 +413,10 @@ fn is_facial(record: &[u8]) -> bool {
         return false;
     }
     let (header, blocks) = record.split_at(FACIAL_HEADER_BYTES);
-    let record_length = u32::from_be_bytes([header[8], header[9], header[10], header[11]]);
-    let images = u16::from_be_bytes([header[12], header[13]]);
+    let images = two_at(header, 12);
     let header_good = header[..4] == FACIAL_FORMAT
         && header[4..8] == FACIAL_VERSION
-        && record_length as usize == record.len()
+        && four_at(header, 8) as usize == record.len()
         && images >= 1;
     header_good && (0..images).try_fold(blocks, |rest, _| after_image(rest)).map_or(false, <[u8]>::is_empty)
 }
@@ -364,8 +426,8 @@ fn after_image(bytes: &[u8]) -> Option<&[u8]> {
     if bytes.len() < FACIAL_INFORMATION_BYTES {
         return None;
     }
-    let block_length = u32::from_be_bytes([bytes[0], bytes[1], bytes[2], bytes[3]]) as usize;
-    let points = usize::from(u16::from_be_bytes([bytes[4], bytes[5]]));
+    let block_length = four_at(bytes, 0) as usize;
+    let points = usize::from(two_at(bytes, 4));
     let image_at = FACIAL_INFORMATION_BYTES + FEATURE_POINT_BYTES * points;
     let pixels_at = image_at + IMAGE_INFORMATION_BYTES;
     if block_length < pixels_at || block_length > bytes.len() {
@@ -378,6 +440,76 @@ fn after_image(bytes: &[u8]) -> Option<&[u8]> {
     } else {
         None
     }
+}
+
+/// An iris record of one representation or two that fills the data part.
+fn is_iris(record: &[u8]) -> bool {
+    if record.len() < IRIS_HEADER_BYTES {
+        return false;
+    }
+    let (header, representations) = record.split_at(IRIS_HEADER_BYTES);
+    let count = two_at(header, 12);
+    let header_good = header[..4] == IRIS_FORMAT
+        && header[4..8] == IRIS_VERSION
+        && four_at(header, 8) as usize == record.len()
+        && matches!(count, 1 | 2)
+        && record.len() <= IRIS_MOST_BYTES * usize::from(count)
+        && header[14] == 0
+        && matches!(header[15], 1 | 2);
+    header_good && (1..=count).try_fold(representations, after_representation).map_or(false, <[u8]>::is_empty)
+}
+
+/// What follows a conforming representation with this number. Its length is what its parts make.
+fn after_representation(bytes: &[u8], number: u16) -> Option<&[u8]> {
+    if bytes.len() < CAPTURE_BYTES {
+        return None;
+    }
+    let (capture, rest) = bytes.split_at(CAPTURE_BYTES);
+    let blocks = QUALITY_BLOCK_BYTES * usize::from(capture[18]);
+    let information = rest.get(blocks..blocks + IRIS_INFORMATION_BYTES)?;
+    let image_at = CAPTURE_BYTES + blocks + IRIS_INFORMATION_BYTES;
+    let length = image_at as u64 + u64::from(four_at(information, 29));
+    let good = u64::from(four_at(capture, 0)) == length
+        && length <= bytes.len() as u64
+        && is_capture_date(&capture[4..13])
+        && two_at(information, 0) == number
+        && is_iris_information(information);
+    if good {
+        Some(&bytes[length as usize..])
+    } else {
+        None
+    }
+}
+
+/// Year, month, day, hour, minute, second and milliseconds: a real date, from 2011 on.
+fn is_capture_date(bytes: &[u8]) -> bool {
+    let year = u64::from(two_at(bytes, 0));
+    year >= 2011
+        && is_calendar_day(year, u64::from(bytes[2]), u64::from(bytes[3]))
+        && is_time(&bytes[4..7])
+        && two_at(bytes, 7) <= 999
+}
+
+/// Behind the number: label, image type, image format, properties, width, height, bit depth, six bytes that are free, the centre's
+/// lowest and highest X and Y, and the lowest and the highest diameter, each with a bound of its own.
+fn is_iris_information(information: &[u8]) -> bool {
+    let (width, height) = (two_at(information, 6), two_at(information, 8));
+    matches!(information[2], 1 | 2)
+        && information[3] == 7
+        && information[4] == 10
+        && matches!(information[5], 0x55 | 0x56 | 0x59 | 0x5A)
+        && (288..=448).contains(&width)
+        && (216..=336).contains(&height)
+        && information[10] == 8
+        && is_centre(&information[17..21], width)
+        && is_centre(&information[21..25], height)
+        && two_at(information, 25) >= 160
+        && two_at(information, 27) <= 280
+}
+
+/// The lowest and the highest centre of a size: the two numbers in the middle, or the one there is twice if the size is odd.
+fn is_centre(bytes: &[u8], size: u16) -> bool {
+    two_at(bytes, 0) == (size + 1) / 2 && two_at(bytes, 2) == size / 2 + 1
 }
 
 // ---------------------------------------------------------------------------------------------

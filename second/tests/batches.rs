@@ -12,14 +12,14 @@ fn batch(seed: u64, count: usize) -> Vec<Record> {
 
 #[test]
 fn batches_are_fixed() {
-    assert!(batch(7, 60_000) == batch(7, 60_000));
-    assert!(batch(7, 60_000) != batch(8, 60_000));
-    assert!(batch(7, 60_000).starts_with(&batch(7, 55_000)));
+    assert!(batch(7, 70_000) == batch(7, 70_000));
+    assert!(batch(7, 70_000) != batch(8, 70_000));
+    assert!(batch(7, 70_000).starts_with(&batch(7, 65_000)));
 }
 
 #[test]
 fn records_keep_to_the_limits() {
-    for record in batch(9, 70_000) {
+    for record in batch(9, 80_000) {
         assert!(record.room <= ROOM_MAX && record.bytes.len() <= BYTES_MAX);
         assert!(record.element == 0 || record.call == Call::View);
         assert!((record.room == 0 && record.fill == 0) || !matches!(record.call, Call::View | Call::FascnDecode));
@@ -32,7 +32,7 @@ fn records_keep_to_the_limits() {
 #[test]
 fn every_number_occurs() {
     let mut tally = Tally::default();
-    for record in batch(4, 55_000) {
+    for record in batch(4, 65_000) {
         tally.count(record.call, &record.answer());
     }
     assert_eq!(tally.never(), []);

@@ -190,7 +190,7 @@ fn report_order() {
 #[test]
 fn desk_inputs() {
     // no byte, a lone one, and a pair that is no kind
-    for head in ["", "0", "2", "8", "00", "12", "20", "99", "2 ", " 2", "+2", "x2", "2x"] {
+    for head in ["", "0", "2", "8", "00", "13", "20", "99", "2 ", " 2", "+2", "x2", "2x"] {
         assert_eq!(desk(head.as_bytes()), b"refused 1\n", "{}", head);
         assert_eq!(desk(&[head.as_bytes(), b"\x0020260301"].concat()), b"refused 1\n", "{}", head);
     }

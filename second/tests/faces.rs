@@ -3,12 +3,12 @@
 use second::batch::Call;
 use second::card::CONFORMS;
 use second::faces::{self, around, block_for_any_points, facial, least, Image, FIELDS, LEAST_RECORD};
-use second::generate::{conforming, personal_twin, value_of, Card, Inputs, Rng, EXAMPLE_DAY};
+use second::generate::{conforming, personal_twin, value_of, Inputs, Rng, EXAMPLE_DAY};
 use second::samples::{self, face, portrait, wrong_fascn, PICTURE};
 use std::collections::BTreeSet;
 
 mod common;
-use common::verdict;
+use common::{record_in, verdict, Fields};
 
 const ROUNDS: usize = 20_000;
 
@@ -25,28 +25,6 @@ fn expected(good: bool) -> u64 {
         0
     } else {
         26
-    }
-}
-
-/// The fields of a record, which a reader of another make takes off the front one after the other.
-struct Fields<'a>(&'a [u8]);
-
-impl<'a> Fields<'a> {
-    fn bytes(&mut self, count: u64) -> Option<&'a [u8]> {
-        if count > self.0.len() as u64 {
-            return None;
-        }
-        let (front, rest) = self.0.split_at(count as usize);
-        self.0 = rest;
-        Some(front)
-    }
-
-    fn number(&mut self, bytes: u64) -> Option<u64> {
-        Some(self.bytes(bytes)?.iter().fold(0, |number, &byte| number * 256 + u64::from(byte)))
-    }
-
-    fn one_of(&mut self, bytes: u64, good: &[u64]) -> Option<()> {
-        good.contains(&self.number(bytes)?).then_some(())
     }
 }
 
@@ -349,13 +327,6 @@ fn counts(record: &[u8]) -> (usize, usize, usize) {
     let two = |at: usize| usize::from(record[at]) * 256 + usize::from(record[at + 1]);
     let points = two(18);
     (two(12), points, two(16) - 32 - 8 * points)
-}
-
-/// The record of a card.
-fn record_in(card: &Card) -> &[u8] {
-    let value = card.rows[0].as_ref().unwrap();
-    let signature = usize::from(value[6]) * 256 + usize::from(value[7]);
-    &value[88..value.len() - signature]
 }
 
 /// One image is made and several, each with no feature points and with some, without pixels and with some, and every good value of

@@ -87,7 +87,7 @@ fn round_trips() {
 fn limits() {
     let mut rng = Rng::new(2);
     let fewest = Forms::all(Form::Fewest);
-    assert_eq!(endless_kinds(), [2, 6, 7, 8, 9, 10, 11]);
+    assert_eq!(endless_kinds(), [2, 6, 7, 8, 9, 10, 11, 12]);
     for kind in endless_kinds() {
         for _ in 0..20 {
             let card = conforming_of_size(&mut rng, kind, 32_768, &fewest);
@@ -169,7 +169,7 @@ fn reports_show_open_values() {
                     }
                     3 => out.extend(value(1)),
                     4 => out.extend(value(4)),
-                    6 | 7 => out.extend(fascn(&value(0)[59..84])),
+                    6 | 7 | 12 => out.extend(fascn(&value(0)[59..84])),
                     _ => (),
                 }
                 out
@@ -185,7 +185,7 @@ fn reports_show_open_values() {
 fn calls_agree() {
     let mut inputs = Inputs::new(5);
     let mut longer = 0;
-    for _ in 0..80_000 {
+    for _ in 0..90_000 {
         let record = inputs.record();
         let (kind, today, bytes) = (record.kind, record.today, &record.bytes[..]);
         if matches!(record.call, Call::FascnDecode | Call::FascnEncode) {
@@ -236,7 +236,7 @@ fn same_in_every_room(kind: u64, today: u64, container: &[u8], rooms: impl Fn(us
 #[test]
 fn rooms_of_made_ones() {
     let mut inputs = Inputs::new(6);
-    for _ in 0..80_000 {
+    for _ in 0..90_000 {
         let record = inputs.record();
         if !matches!(record.call, Call::FascnDecode | Call::FascnEncode) {
             same_in_every_room(record.kind, record.today, &record.bytes, |sheet| {

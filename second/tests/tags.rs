@@ -33,6 +33,7 @@ fn numbers_of(rule: Rule) -> &'static [u64] {
         Rule::Text => &[23],
         Rule::Fingers => &[21, 17, 22],
         Rule::Face => &[21, 17, 26],
+        Rule::Iris => &[21, 17, 27],
         Rule::Certificate => &[24, 25],
     }
 }

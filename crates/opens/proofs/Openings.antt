@@ -14,7 +14,7 @@ use Rattle.laws.proofs.Cases.{and-true, along}
 use Rattle.kinds.proofs.Arms.{Others, among, none-among}
 use Rattle.kinds.specs.Tables.{Lengths, Entry, Table, table, Permitted}
 use Rattle.kinds.specs.declared.ValueRule.{ValueRule}
-use Rattle.kinds.specs.declared.ValueRule.the-variants.{Free, Fascn, Uuid, Expiry, Model, Application, Policy, Text, Date, Fingers, Face, Certificate, CertInfo}
+use Rattle.kinds.specs.declared.ValueRule.the-variants.{Free, Fascn, Uuid, Expiry, Model, Application, Policy, Text, Date, Fingers, Face, Iris, Certificate, CertInfo}
 use Rattle.rules.specs.Rules.{Keeps}
 use Rattle.container.specs.Container.{Values, Allowed}
 use Rattle.opens.specs.Open.{Opening, opensNone, opensModel, opensCard, opensPolicy, opensIssuer, opensHolder, openings, taggedValue}
@@ -23,7 +23,7 @@ use Rattle.opens.proofs.Valued.{taggedRow, value-fits}
 -- ---- two rules are told apart by their places in a list
 
 rules : List ValueRule
-rules = Free ∷ Fascn ∷ Uuid ∷ Expiry ∷ Model ∷ Application ∷ Policy ∷ Text ∷ Date ∷ Fingers ∷ Face ∷ Certificate ∷ CertInfo ∷ []
+rules = Free ∷ Fascn ∷ Uuid ∷ Expiry ∷ Model ∷ Application ∷ Policy ∷ Text ∷ Date ∷ Fingers ∷ Face ∷ Iris ∷ Certificate ∷ CertInfo ∷ []
 
 abbrev place : ValueRule → ℕ
 place Free = 0
@@ -37,8 +37,9 @@ place Text = 7
 place Date = 8
 place Fingers = 9
 place Face = 10
-place Certificate = 11
-place CertInfo = 12
+place Iris = 11
+place Certificate = 12
+place CertInfo = 13
 
 placed : (r : ValueRule) → getD rules (place r) Free ≡ r
 unfolding rules
@@ -55,6 +56,7 @@ placed r =
       | Date ↦ refl
       | Fingers ↦ refl
       | Face ↦ refl
+      | Iris ↦ refl
       | Certificate ↦ refl
       | CertInfo ↦ refl
     ]
@@ -105,7 +107,7 @@ sound opensModel rows = true
 sound (opensCard fascn expiry) rows = ruledBy Fascn (taggedRow rows fascn) && ruledBy Expiry (taggedRow rows expiry)
 sound (opensPolicy tag) rows = sized 2 (taggedRow rows tag)
 sound (opensIssuer tag) rows = sized 15 (taggedRow rows tag)
-sound (opensHolder tag) rows = ruledBy Fingers (taggedRow rows tag) || ruledBy Face (taggedRow rows tag)
+sound (opensHolder tag) rows = ruledBy Fingers (taggedRow rows tag) || ruledBy Face (taggedRow rows tag) || ruledBy Iris (taggedRow rows tag)
 
 pub sound-kind : (kind : ℕ) → sound (opening kind) (table kind) ≡ true
 unfolding allBelow
@@ -131,7 +133,7 @@ none-is (opensHolder tag) b f e = absurd (true≢false (sym e ∙ f))
 
 -- all but these
 abbrev somethingOpen : List ℕ
-somethingOpen = 1 ∷ 2 ∷ 3 ∷ 4 ∷ 6 ∷ 7 ∷ []
+somethingOpen = 1 ∷ 2 ∷ 3 ∷ 4 ∷ 6 ∷ 7 ∷ 12 ∷ []
 
 pub nothing-open : (kind : ℕ) → Others somethingOpen kind Unit → opensNone ≡ opening kind
 unfolding allBelow

@@ -71,10 +71,6 @@ module _ (starts ends c : List ℕ) where
   unfolding rowValues
   issuer-open = ap issuer (sym (row-bytes 4))
 
-  pub fingers-open : holderOf (row 0) ≡ openOf 6 (values 6)
-  unfolding rowValues
-  fingers-open = ap holderOf (sym (row-bytes 0))
-
-  pub face-open : holderOf (row 0) ≡ openOf 7 (values 7)
-  unfolding rowValues
-  face-open = ap holderOf (sym (row-bytes 0))
+  -- of a kind whose first row is a biometric record
+  pub holder-open : (kind : ℕ) → holderOf (bytesOf (rowValue starts ends c 0)) ≡ openOf kind (values kind) → holderOf (row 0) ≡ openOf kind (values kind)
+  holder-open kind e = ap holderOf (sym (row-bytes 0)) ∙ e

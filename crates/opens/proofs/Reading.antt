@@ -11,10 +11,10 @@ use Rattle.fascn.specs.Fascn.{IsFascn}
 use Rattle.fascn.proofs.Codec.{complete}
 use Rattle.dates.specs.Date.{textNumber}
 use Rattle.dates.proofs.Dates.{eight-digits, text-number}
-use Rattle.cbeff.specs.Header.{fingers, face}
+use Rattle.cbeff.specs.Header.{fingers, face, iris}
 use Rattle.cbeff.proofs.Exact.{fascn-inside}
 use Rattle.kinds.specs.Tables.{table}
-use Rattle.kinds.specs.declared.ValueRule.the-variants.{Fascn, Expiry, Fingers, Face}
+use Rattle.kinds.specs.declared.ValueRule.the-variants.{Fascn, Expiry, Fingers, Face, Iris}
 use Rattle.texts.specs.Text.{ascii}
 use Rattle.texts.proofs.Reading.{Reads, and, given, so, behind}
 use Rattle.texts.proofs.Numbers.{line-reads, hex-reads, raw-reads}
@@ -75,9 +75,11 @@ module _ (k t : ℕ) (vs : Values) (c : List ℕ) (b : Bytes c) (h : Conforms k 
       → let f = inHeader (taggedValue (table k) vs tag) in (agencyOf f < 10 ^ 4) × (systemOf f < 10 ^ 4)
   inside tag s =
       fascn-small _
+      (either _ (ruledBy Iris (taggedRow (table k) tag))
       (either (ruledBy Fingers (taggedRow (table k) tag)) (ruledBy Face (taggedRow (table k) tag))
       (λ e. fascn-inside fingers _ (bytes tag) (value-keeps t tag (table k) vs (h .allowed) Fingers e))
-      (λ e. fascn-inside face _ (bytes tag) (value-keeps t tag (table k) vs (h .allowed) Face e)) s)
+      (λ e. fascn-inside face _ (bytes tag) (value-keeps t tag (table k) vs (h .allowed) Face e)))
+      (λ e. fascn-inside iris _ (bytes tag) (value-keeps t tag (table k) vs (h .allowed) Iris e)) s)
 
 -- ---- of two
 

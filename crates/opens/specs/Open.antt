@@ -1,6 +1,6 @@
 -- 01: "OPEN (named values)", "after its count of lines". "Open values: CHUID agency, system, expires; FINGERS and FACE agency, system; CCC `model 10`;
 -- DISCOVERY `policy` with four hex digits; PRINTED `issuer` and tag 06; SECURITY none. Every other value is personal; tags and lengths are open."
--- 2026-04, of the certificates: "All values are personal, OPEN is 0"
+-- 2026-04, of the certificates: "All values are personal, OPEN is 0"; 2026-06, of the iris: "OPEN gives agency and system, all else is personal"
 use Prim.Native.Nat.{ℕ}
 use mathlib.Core.Bool.{cond}
 use mathlib.Core.Option.{Option, none, some}
@@ -63,11 +63,11 @@ openBy (opensIssuer tag) value = issuer (value tag)
 openBy (opensHolder tag) value = holder (agencyOf (inHeader (value tag))) (systemOf (inHeader (value tag)))
 
 -- in the order of the kinds, by the tags that 01 gives in "Container form": CCC; CHUID, whose FASC-N is 30 and whose expiry 35; DISCOVERY, whose policy
--- is 5F2F; PRINTED, "`issuer` and tag 06"; SECURITY; FINGERS and FACE, whose record is BC; the four of certificates
+-- is 5F2F; PRINTED, "`issuer` and tag 06"; SECURITY; FINGERS and FACE, whose record is BC; the four of certificates; IRIS, whose record is BC too
 abbrev pub openings : List Opening
 openings =
     opensModel ∷ opensCard 0x30 0x35 ∷ opensPolicy 0x5F2F ∷ opensIssuer 0x06 ∷ opensNone ∷ opensHolder 0xBC ∷ opensHolder 0xBC
-    ∷ opensNone ∷ opensNone ∷ opensNone ∷ opensNone ∷ []
+    ∷ opensNone ∷ opensNone ∷ opensNone ∷ opensNone ∷ opensHolder 0xBC ∷ []
 
 -- of a number that is no kind nothing is open
 abbrev pub openOf : ℕ → Values → Open

@@ -73,7 +73,7 @@ fn put_issuer(v: &[u8], out: &mut [u8]) -> usize
     at + room::put_byte(b'\n', &mut out[at..])
 }
 
-// "FINGERS and FACE agency, system"
+// "FINGERS and FACE agency, system", and so of IRIS
 fn put_biometric(v: &[u8], out: &mut [u8]) -> usize
     ensures { λ r. ⌜ Put (openPart (holder (agencyOf (inHeader (now (v .entry)))) (systemOf (inHeader (now (v .entry)))))) (now (out .entry)) (now (out .exit)) r ⌝ }
 {
@@ -95,6 +95,7 @@ pub fn put_open(kind: u64, c: &[u8], map: Map, out: &mut [u8]) -> usize
         4 => put_issuer(container::part(c, map, 4), out),
         6 => put_biometric(container::part(c, map, 0), out),
         7 => put_biometric(container::part(c, map, 0), out),
+        12 => put_biometric(container::part(c, map, 0), out),
         _ => room::put_all(b"OPEN 0\n", out),
     }
 }

@@ -33,6 +33,7 @@ use Rattle.plain.specs.Plain.{isUuid, isPolicy, isText, ended, isCreator}
 use Rattle.records.specs.Fills.{fills, whole}
 use Rattle.minutiae.specs.Judged.{pointHolds, pointsHold, viewHead, extent, recordHead, isMinutiae}
 use Rattle.facial.specs.Judged.{informed, extent as blockExtent, recordHead as faceHead, isFacial}
+use Rattle.iris.specs.Judged.{dateHolds, marksHold, shapeHolds, extent as irisExtent, recordHead as irisHead, isIris}
 use Rattle.der.specs.Length.{readLength as readDer}
 use Rattle.der.specs.Walk.{headOf, items, judged as walked, certificate}
 use Rattle.verdicts.specs.Verdicts.{numberOf, found, verdictOf}
@@ -211,7 +212,7 @@ all-so [] t = tt
 all-so (e ∷ es) t = let c = and-true (tested e) (allTested es) t in (so e (c .0), all-so es (c .1))
 
 all-tested : allTested examples ≡ true
-unfolding allTested tested areBytes isNone isLength sameTag examples ones digits exclusive values checked characters encoded valuesOf framed decoded isFascn lengthBytes readLength daysIn exists isDate dateOf twoDigits monthNumber isPrintedDate isMoment isUuid isPolicy isText ended isCreator pointHolds pointsHold viewHead fills whole extent recordHead isMinutiae informed blockExtent faceHead isFacial readDer headOf items walked certificate ruleOf element located parsed outcome sheetOf writeOutput
+unfolding allTested tested areBytes isNone isLength sameTag examples ones digits exclusive values checked characters encoded valuesOf framed decoded isFascn lengthBytes readLength daysIn exists isDate dateOf twoDigits monthNumber isPrintedDate isMoment isUuid isPolicy isText ended isCreator pointHolds pointsHold viewHead fills whole extent recordHead isMinutiae informed blockExtent faceHead isFacial dateHolds marksHold shapeHolds irisExtent irisHead isIris readDer headOf items walked certificate ruleOf element located parsed outcome sheetOf writeOutput
 all-tested = refl
 
 pub examples-hold : All examples

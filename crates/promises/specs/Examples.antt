@@ -1,10 +1,11 @@
--- The examples of document 01, P1 to P14, those of requests 2026-04, 2026-13, 2026-02, 2026-01, 2026-03 and 2026-05, and further rows, as one table: what each row says, over the rules themselves, and the table.
+-- The examples of document 01, P1 to P14, those of requests 2026-04, 2026-13, 2026-02, 2026-01, 2026-03, 2026-05 and 2026-06, and further rows, as one table: what each row says, over the rules themselves, and the table.
 use Prim.Native.Nat.{ℕ, zero, suc, _+_}
 use mathlib.Core.Path.{_≡_}
 use mathlib.Core.Option.{Option, none, some}
 use mathlib.Core.List.{List, [], _∷_, _++_}
 use lib.ListN.{length, replicate}
 use Rattle.laws.specs.Ascii.{ascii}
+use Rattle.laws.specs.Layout.{number}
 use Rattle.laws.specs.Room.{filled}
 use Rattle.fascn.specs.Fascn.{IsFascnOf, IsFascn}
 use Rattle.fascn.specs.declared.Numbers.{Numbers}
@@ -141,17 +142,18 @@ printedSheet text = 0 ∷ 1 ∷ 0 ∷ 1 ∷ 0 ∷ (length text + 1) ∷ (text ++
 abbrev security : List ℕ
 security = container 5 (some [] ∷ some [] ∷ some [] ∷ [])
 
--- a CBEFF header: the data length, the format, the type, the data type, the quality, and its end given; the end: P1's FASC-N and the reserved bytes
+-- a CBEFF header: the data length, the owner, the format, the type, the data type, the quality, and its end given; the end: P1's FASC-N and the reserved
+-- bytes
 abbrev moment : List ℕ
 moment = 20 ∷ 26 ∷ 1 ∷ 1 ∷ 0 ∷ 0 ∷ 0 ∷ 0x5A ∷ []
 
 abbrev cbeffEnd : List ℕ
 cbeffEnd = p1 0xEB ++ replicate 4 0
 
-abbrev cbeffHead : ℕ → ℕ → ℕ → ℕ → ℕ → List ℕ → List ℕ
-cbeffHead d format sort type quality ending =
-    0x03 ∷ 0x0D ∷ 0 ∷ 0 ∷ 0 ∷ d ∷ 0 ∷ 1 ∷ 0x00 ∷ 0x1B ∷ format ∷ 0x01
-    ∷ (moment ++ (moment ++ (moment ++ (0 ∷ 0 ∷ sort ∷ type ∷ quality ∷ (replicate 18 0 ++ ending)))))
+abbrev cbeffHead : ℕ → ℕ → ℕ → ℕ → ℕ → ℕ → List ℕ → List ℕ
+cbeffHead d owner format sort type quality ending =
+    0x03 ∷ 0x0D ∷ (number 4 d ++ (0 ∷ 1 ∷ (number 2 owner ++ (number 2 format
+    ++ (moment ++ (moment ++ (moment ++ (number 3 sort ++ (type ∷ quality ∷ (replicate 18 0 ++ ending))))))))))
 
 -- a minutiae record without points
 abbrev record38 : List ℕ
@@ -160,7 +162,7 @@ record38 =
     ∷ (replicate 10 9 ++ (0 ∷ 197 ∷ 0 ∷ 197 ∷ 2 ∷ 0 ∷ 1 ∷ 0 ∷ 60 ∷ 0 ∷ 0 ∷ 0 ∷ 6 ∷ 2 ∷ 254 ∷ 0 ∷ 0 ∷ 0 ∷ []))
 
 abbrev fingers : ℕ → List ℕ
-fingers quality = container 6 (some (cbeffHead 38 0x02 0x08 0x80 quality cbeffEnd ++ (record38 ++ (0x30 ∷ []))) ∷ some [] ∷ [])
+fingers quality = container 6 (some (cbeffHead 38 0x001B 0x0201 0x08 0x80 quality cbeffEnd ++ (record38 ++ (0x30 ∷ []))) ∷ some [] ∷ [])
 
 -- 2026-05: an image's information, its four fields that 9.6 names given; a block that says so many bytes and points; a record that says so many bytes and
 -- images
@@ -179,7 +181,7 @@ portrait size blockSize points information = portraits size 1 (block blockSize p
 
 -- a face's BC with this quality, this end of its header, and this record; its container
 abbrev faceValue : ℕ → List ℕ → List ℕ → List ℕ
-faceValue quality ending rec = cbeffHead (length rec) 0x05 0x02 0x20 quality ending ++ (rec ++ (0x30 ∷ []))
+faceValue quality ending rec = cbeffHead (length rec) 0x001B 0x0501 0x02 0x20 quality ending ++ (rec ++ (0x30 ∷ []))
 
 abbrev faced : ℕ → List ℕ → List ℕ → List ℕ
 faced quality ending rec = container 7 (some (faceValue quality ending rec) ∷ some [] ∷ [])
@@ -190,6 +192,49 @@ recorded rec = faced 0x64 cbeffEnd rec
 
 abbrev face : ℕ → List ℕ
 face quality = faced quality cbeffEnd (portrait 52 38 0 (about 1 0 1 2))
+
+-- 2026-06: a capture date of this year, month and day, at 10:30:59.500; an image's fields: its number, properties, width, and the centre in that given,
+-- 216 high
+abbrev captured : ℕ → ℕ → ℕ → List ℕ
+captured year month day = number 2 year ++ (month ∷ day ∷ 10 ∷ 30 ∷ 59 ∷ number 2 500)
+
+abbrev pictured : ℕ → ℕ → ℕ → ℕ → ℕ → List ℕ
+pictured i properties width low high =
+    number 2 i ++ (1 ∷ 7 ∷ 10 ∷ properties ∷ (number 2 width ++ (0 ∷ 216 ∷ 8 ∷ (replicate 6 0xDD
+    ++ (number 2 low ++ (number 2 high ++ (0 ∷ 108 ∷ 0 ∷ 109 ∷ (number 2 160 ++ number 2 280))))))))
+
+-- a representation that says so many bytes, with this date, these quality blocks behind their number, these fields and an image of so many bytes; a record
+-- that says so many bytes, representations and eyes
+abbrev represented : ℕ → List ℕ → List ℕ → List ℕ → ℕ → List ℕ
+represented size when blocks fields image =
+    number 4 size ++ (when ++ (replicate 5 0xEE ++ (blocks ++ (fields ++ (number 4 image ++ replicate image 0xAA)))))
+
+abbrev irises : ℕ → ℕ → ℕ → List ℕ → List ℕ
+irises size count eyes all = ascii "IIR" ++ (0x00 ∷ (ascii "020" ++ (0x00 ∷ (number 4 size ++ (number 2 count ++ (0 ∷ eyes ∷ all))))))
+
+-- a good date, and good fields with this number; a record of one representation without quality blocks and without an image, with this date and these
+-- fields; a good one with an image of so many bytes
+abbrev march : List ℕ
+march = captured 2026 3 1
+
+abbrev good : ℕ → List ℕ
+good i = pictured i 0x55 288 144 145
+
+abbrev irisWith : List ℕ → List ℕ → List ℕ
+irisWith when fields = irises 68 1 1 (represented 52 when (0 ∷ []) fields 0)
+
+abbrev irisOf : ℕ → List ℕ
+irisOf image = irises (68 + image) 1 1 (represented (52 + image) march (0 ∷ []) (good 1) image)
+
+-- an iris's BC with this owner of the format, this quality, this end of its header, and this record; its container; with nothing else wrong
+abbrev irisValue : ℕ → ℕ → List ℕ → List ℕ → List ℕ
+irisValue owner quality ending rec = cbeffHead (length rec) owner 0x0009 0x10 0x40 quality ending ++ (rec ++ (0x30 ∷ []))
+
+abbrev irised : ℕ → ℕ → List ℕ → List ℕ → List ℕ
+irised owner quality ending rec = container 12 (some (irisValue owner quality ending rec) ∷ some [] ∷ [])
+
+abbrev seen : List ℕ → List ℕ
+seen rec = irised 0x0101 0x64 cbeffEnd rec
 
 -- DER items of fewer than 128 bytes: a tag with its contents; nothing, as an item; an item inside so many SEQUENCEs
 abbrev item : ℕ → List ℕ → List ℕ
@@ -258,12 +303,12 @@ examples =
     ∷ breaks 5 (security ++ (0 ∷ [])) 12 0 NoTag
     ∷ breaks 3 (0x7E ∷ 0x02 ∷ 0x5F ∷ 0x00 ∷ []) 13 2 (Of 0x5F)
     ∷ breaks 5 (0x53 ∷ 0x04 ∷ 0xBA ∷ 0x00 ∷ 0xBB ∷ 0x00 ∷ []) 15 6 NoTag
-    -- 2026-04: the least certificate, of each of the four kinds; no kind 12
+    -- 2026-04: the least certificate, of each of the four kinds; no kind 13
     ∷ conforms 8 (certified 8 (three 0x30 null) 0x00 none)
     ∷ conforms 9 (certified 9 (three 0x30 null) 0x00 none)
     ∷ conforms 10 (certified 10 (three 0x30 null) 0x00 none)
     ∷ conforms 11 (certified 11 (three 0x30 null) 0x00 none)
-    ∷ breaks 12 (bare (three 0x30 null)) 1 0 NoTag
+    ∷ breaks 13 (bare (three 0x30 null)) 1 0 NoTag
     -- an item at level 8, and at level 9; at level 9 half an item too
     ∷ conforms 8 (bare (three 0x30 (nested 6 null)))
     ∷ breaks 8 (bare (three 0x30 (nested 7 null))) 25 2 (Of 0x70)
@@ -297,7 +342,7 @@ examples =
     ∷ checks 3 (discovery 0x60) 0 20 15 (Of 0x5F2F) 0 []
     ∷ checks 3 (discovery 0x60) 17 20 15 (Of 0x5F2F) 0 []
     -- no such kind, and no container
-    ∷ checks 12 chuid 0 1 0 NoTag 0 []
+    ∷ checks 13 chuid 0 1 0 NoTag 0 []
     ∷ checks 2 [] 67 10 0 NoTag 0 []
     -- 2026-02: a broken FASC-N (P2) in the first element, and one that runs past the end; a repeated one, and one whose length is cut short
     ∷ breaks 2 (chuidOf (element 0x30 (p1 0xEA))) 17 2 (Of 0x30)
@@ -430,4 +475,61 @@ examples =
     ∷ breaks 7 (faced 0x64 (p1 0xEB ++ (0 ∷ 0 ∷ 0 ∷ 1 ∷ [])) (ascii "RUBBISH")) 21 2 (Of 0xBC)
     -- and in a sheet
     ∷ writes 7 (0 ∷ 97 ∷ (faceValue 0x64 cbeffEnd (ascii "RUBBISH") ++ (0 ∷ 1 ∷ []))) 200 26 0 (Of 0xBC) []
+    -- 2026-06: one representation, and two, the second with two quality blocks and an image
+    ∷ conforms 12 (seen (irisOf 0))
+    ∷ conforms 12 (seen (irises 133 2 1 (represented 52 march (0 ∷ []) (good 1) 0 ++ represented 65 march (2 ∷ replicate 10 0xCC) (good 2) 3)))
+    -- number 2 alone, and 2 before 1; none, and three; fewer than there are, and more
+    ∷ breaks 12 (seen (irisWith march (good 2))) 27 3 (Of 0xBC)
+    ∷ breaks 12 (seen (irises 120 2 1 (represented 52 march (0 ∷ []) (good 2) 0 ++ represented 52 march (0 ∷ []) (good 1) 0))) 27 3 (Of 0xBC)
+    ∷ breaks 12 (seen (irises 16 0 1 [])) 27 2 (Of 0xBC)
+    ∷ breaks 12 (seen (irises 172 3 1 (represented 52 march (0 ∷ []) (good 1) 0 ++ (represented 52 march (0 ∷ []) (good 2) 0 ++ represented 52 march (0 ∷ []) (good 3) 0)))) 27 4 (Of 0xBC)
+    ∷ breaks 12 (seen (irises 120 1 1 (represented 52 march (0 ∷ []) (good 1) 0 ++ represented 52 march (0 ∷ []) (good 2) 0))) 27 3 (Of 0xBC)
+    ∷ breaks 12 (seen (irises 68 2 1 (represented 52 march (0 ∷ []) (good 1) 0))) 27 3 (Of 0xBC)
+    -- the width 287, 288 as above, 448 and 449, each with its centre
+    ∷ breaks 12 (seen (irisWith march (pictured 1 0x55 287 144 144))) 27 3 (Of 0xBC)
+    ∷ conforms 12 (seen (irisWith march (pictured 1 0x55 448 224 225)))
+    ∷ breaks 12 (seen (irisWith march (pictured 1 0x55 449 225 225))) 27 3 (Of 0xBC)
+    -- the centre of an odd width; one to the left and one to the right of it; by the even rule; the same of an even width, and by the odd rule
+    ∷ conforms 12 (seen (irisWith march (pictured 1 0x55 289 145 145)))
+    ∷ breaks 12 (seen (irisWith march (pictured 1 0x55 289 144 144))) 27 3 (Of 0xBC)
+    ∷ breaks 12 (seen (irisWith march (pictured 1 0x55 289 146 146))) 27 3 (Of 0xBC)
+    ∷ breaks 12 (seen (irisWith march (pictured 1 0x55 289 144 145))) 27 3 (Of 0xBC)
+    ∷ breaks 12 (seen (irisWith march (pictured 1 0x55 288 143 144))) 27 3 (Of 0xBC)
+    ∷ breaks 12 (seen (irisWith march (pictured 1 0x55 288 145 146))) 27 3 (Of 0xBC)
+    ∷ breaks 12 (seen (irisWith march (pictured 1 0x55 288 144 144))) 27 3 (Of 0xBC)
+    -- the last day of 2010, and the first of 2011; 30 February, and 29 February of a leap year
+    ∷ breaks 12 (seen (irisWith (captured 2010 12 31) (good 1))) 27 3 (Of 0xBC)
+    ∷ conforms 12 (seen (irisWith (captured 2011 1 1) (good 1)))
+    ∷ breaks 12 (seen (irisWith (captured 2026 2 30) (good 1))) 27 3 (Of 0xBC)
+    ∷ conforms 12 (seen (irisWith (captured 2028 2 29) (good 1)))
+    -- the properties 5A, the largest, and 65; two eyes, and three
+    ∷ conforms 12 (seen (irisWith march (pictured 1 0x5A 288 144 145)))
+    ∷ breaks 12 (seen (irisWith march (pictured 1 0x65 288 144 145))) 27 3 (Of 0xBC)
+    ∷ conforms 12 (seen (irises 68 1 2 (represented 52 march (0 ∷ []) (good 1) 0)))
+    ∷ breaks 12 (seen (irises 68 1 3 (represented 52 march (0 ∷ []) (good 1) 0))) 27 3 (Of 0xBC)
+    -- a record length of one less and of one more; a representation's, likewise; a byte behind the last one
+    ∷ breaks 12 (seen (irises 67 1 1 (represented 52 march (0 ∷ []) (good 1) 0))) 27 3 (Of 0xBC)
+    ∷ breaks 12 (seen (irises 69 1 1 (represented 52 march (0 ∷ []) (good 1) 0))) 27 3 (Of 0xBC)
+    ∷ breaks 12 (seen (irises 68 1 1 (represented 51 march (0 ∷ []) (good 1) 0))) 27 3 (Of 0xBC)
+    ∷ breaks 12 (seen (irises 68 1 1 (represented 53 march (0 ∷ []) (good 1) 0))) 27 3 (Of 0xBC)
+    ∷ breaks 12 (seen (irises 69 1 1 (represented 52 march (0 ∷ []) (good 1) 0 ++ (0 ∷ [])))) 27 3 (Of 0xBC)
+    -- 3,072 bytes with one representation, and 3,073; these with two
+    ∷ conforms 12 (seen (irisOf 3004))
+    ∷ breaks 12 (seen (irisOf 3005)) 27 4 (Of 0xBC)
+    ∷ conforms 12 (seen (irises 3073 2 1 (represented 52 march (0 ∷ []) (good 1) 0 ++ represented 3005 march (0 ∷ []) (good 2) 2953)))
+    -- the quality is a signed byte, and -1 is known in IRIS; the owner of the format of fingers and face
+    ∷ breaks 12 (irised 0x0101 0xFD cbeffEnd (irisOf 0)) 21 3 (Of 0xBC)
+    ∷ conforms 12 (irised 0x0101 0xFE cbeffEnd (irisOf 0))
+    ∷ conforms 12 (irised 0x0101 0xFF cbeffEnd (irisOf 0))
+    ∷ breaks 12 (irised 0x0101 0x65 cbeffEnd (irisOf 0)) 21 3 (Of 0xBC)
+    ∷ breaks 12 (irised 0x001B 0x64 cbeffEnd (irisOf 0)) 21 3 (Of 0xBC)
+    -- a good header and rubbish after it; the quality, the FASC-N and the reserved bytes come before
+    ∷ breaks 12 (seen (ascii "RUBBISH")) 27 2 (Of 0xBC)
+    ∷ breaks 12 (irised 0x0101 0xFD cbeffEnd (ascii "RUBBISH")) 21 2 (Of 0xBC)
+    ∷ breaks 12 (irised 0x0101 0x64 (p1 0xEA ++ replicate 4 0) (ascii "RUBBISH")) 17 2 (Of 0xBC)
+    ∷ breaks 12 (irised 0x0101 0x64 (p1 0xEB ++ (0 ∷ 0 ∷ 0 ∷ 1 ∷ [])) (ascii "RUBBISH")) 21 2 (Of 0xBC)
+    -- an iris is no face, and a face no iris; and in a sheet
+    ∷ breaks 7 (seen (irisOf 0)) 21 3 (Of 0xBC)
+    ∷ breaks 12 (face 0x64) 21 3 (Of 0xBC)
+    ∷ writes 12 (0 ∷ 97 ∷ (irisValue 0x0101 0x64 cbeffEnd (ascii "RUBBISH") ++ (0 ∷ 1 ∷ []))) 200 27 0 (Of 0xBC) []
     ∷ []

@@ -17,7 +17,7 @@ use Rattle.verdicts.specs.declared.Fault.the-variants.{BadFascn, BadUuid, BadDa
 use Rattle.verdicts.specs.declared.Ruling.{Ruling}
 use Rattle.verdicts.specs.declared.Ruling.the-variants.{Kept, Breaks}
 use Rattle.kinds.specs.declared.ValueRule.{ValueRule}
-use Rattle.kinds.specs.declared.ValueRule.the-variants.{Free, Fascn, Uuid, Expiry, Model, Application, Policy, Text, Date, Fingers, Face, Certificate, CertInfo}
+use Rattle.kinds.specs.declared.ValueRule.the-variants.{Free, Fascn, Uuid, Expiry, Model, Application, Policy, Text, Date, Fingers, Face, Iris, Certificate, CertInfo}
 use Rattle.dates.specs.Date.{dateOf, inWindow}
 use Rattle.dates.specs.Printed.{isPrintedDate}
 use Rattle.dates.specs.declared.Date.{Date as TextDate}
@@ -29,8 +29,8 @@ use Rattle.fascn.specs.Reading.{isFascn}
 use Rattle.fascn.proofs.Codec.{fascn-exact}
 use Rattle.plain.specs.Plain.{isUuid, isPolicy, isText}
 use Rattle.plain.proofs.Exact.{uuid-exact, policy-exact, text-exact as plain-text-exact}
-use Rattle.cbeff.specs.Header.{header, fingers, face}
-use Rattle.cbeff.proofs.Exact.{fingers-exact, face-exact, first-broken-exact}
+use Rattle.cbeff.specs.Header.{header, fingers, face, iris}
+use Rattle.cbeff.proofs.Exact.{biometric-exact, first-broken-exact}
 use Rattle.der.proofs.Exact.{certificate-exact}
 use Rattle.der.proofs.Faults.{certificate-refused}
 use Rattle.rules.specs.Rules.{model, application, certInfo, certificateDepth, Keeps, Violates, expires, ruleOf}
@@ -75,8 +75,9 @@ value-exact Application today v b = by-test _ _ (same-exact v application)
 value-exact Policy today v b = by-test _ _ (policy-exact v)
 value-exact Text today v b = by-test _ _ (plain-text-exact v)
 value-exact Date today v b = by-test _ _ (printed-exact v b)
-value-exact Fingers today v b = by-judge (judge (header fingers (length v)) 0 v) (fingers-exact v b)
-value-exact Face today v b = by-judge (judge (header face (length v)) 0 v) (face-exact v b)
+value-exact Fingers today v b = by-judge (judge (header fingers (length v)) 0 v) (biometric-exact fingers v b)
+value-exact Face today v b = by-judge (judge (header face (length v)) 0 v) (biometric-exact face v b)
+value-exact Iris today v b = by-judge (judge (header iris (length v)) 0 v) (biometric-exact iris v b)
 value-exact Certificate today v b = certificate-exact certificateDepth v b
 value-exact CertInfo today v b = by-test _ _ (same-exact v certInfo)
 
@@ -116,5 +117,6 @@ broken-exact Text today v b f = one-fault BadText f _ (of-test BadText (isText v
 broken-exact Date today v b f = one-fault BadDate f _ (of-test BadDate (isPrintedDate v)) (value-exact Date today v b)
 broken-exact Fingers today v b f = first-of (judge (header fingers (length v)) 0 v) f (first-broken-exact fingers v b f)
 broken-exact Face today v b f = first-of (judge (header face (length v)) 0 v) f (first-broken-exact face v b f)
+broken-exact Iris today v b f = first-of (judge (header iris (length v)) 0 v) f (first-broken-exact iris v b f)
 broken-exact Certificate today v b f = certificate-refused certificateDepth v f b
 broken-exact CertInfo today v b f = one-fault BadFixed f _ (of-test BadFixed (same v certInfo)) (value-exact CertInfo today v b)

@@ -4,6 +4,7 @@ ghost use Rattle.verdicts.specs.Verdicts.{unless};
 ghost use Rattle.rules.specs.Rules.{expires, ruleOf};
 use cbeff::face;
 use cbeff::fingers;
+use cbeff::iris;
 use dates::Date;
 use kinds::ValueRule;
 use verdicts::Fault;
@@ -54,6 +55,10 @@ pub fn judge(rule: ValueRule, today: u64, v: &[u8]) -> Ruling
         }
         ValueRule::Face => {
             let answer = cbeff::judge(face(), &v[0..]);
+            answer
+        }
+        ValueRule::Iris => {
+            let answer = cbeff::judge(iris(), &v[0..]);
             answer
         }
         ValueRule::Certificate => {

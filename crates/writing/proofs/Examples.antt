@@ -53,7 +53,7 @@ unfolding writeOutput isDate exists daysIn
 cut-short = refl
 
 -- 1, 2
-pub no-kind : writeOutput 12 20260301 sheet 20 ≡ refusal (outright UnknownKind)
+pub no-kind : writeOutput 13 20260301 sheet 20 ≡ refusal (outright UnknownKind)
 unfolding writeOutput
 no-kind = refl
 

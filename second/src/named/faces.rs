@@ -39,18 +39,9 @@ pub fn all() -> Vec<Group> {
 // ---------------------------------------------------------------------------------------------
 // The worked cases
 
-/// The fields of the worked cases' header from the format's owner to the creator.
-fn fields() -> Vec<u8> {
-    let moment = [0x14, 0x1A, 0x03, 0x01, 0x0A, 0x1E, 0x3B, 0x5A];
-    let front = [&[0x00, 0x1B, 0x05, 0x01], &moment.repeat(3)[..], &[0, 0, 2, 0x20, 0xFE]];
-    [&front.concat(), &b"MAKER"[..], &[0; 13]].concat()
-}
-
-/// A container of the worked cases with this FASC-N, these reserved bytes and this record, and a signature of three bytes.
-fn case_of(fascn: &[u8; 25], reserved: [u8; 4], record: &[u8]) -> Vec<u8> {
-    let data = (record.len() as u32).to_be_bytes();
-    let header = [&[0x03, 0x0D], &data[..], &[0, 3], &fields(), fascn, &reserved];
-    card(7, &[Some(&[&header.concat(), record, b"SIG"].concat()), Some(&[])]).container()
+/// A container of the worked cases with this FASC-N, these reserved bytes and this record.
+fn face_of(fascn: &[u8; 25], reserved: [u8; 4], record: &[u8]) -> Vec<u8> {
+    case_of(7, &head_of([0x00, 0x1B, 0x05, 0x01], [0, 0, 2, 0x20]), fascn, reserved, record)
 }
 
 /// Format, version, this length and this number of images, and what follows them.
@@ -75,7 +66,7 @@ fn with_field(at: usize, byte: u8) -> [u8; 12] {
 
 /// The worked cases of request 2026-05, in their order.
 fn face_cases() -> Group {
-    let container = |record: &[u8]| case_of(&EXAMPLE_FASCN, [0; 4], record);
+    let container = |record: &[u8]| face_of(&EXAMPLE_FASCN, [0; 4], record);
     let kept = |record: &[u8]| check(7, &container(record), CONFORMS);
     let refused = |record: &[u8]| {
         let container = container(record);
@@ -88,7 +79,7 @@ fn face_cases() -> Group {
     let free =
         [&[0, 0, 0, 38, 0, 0], &[0xFF; 14][..], &[1, 1, 0xFF, 0xFF, 0, 0, 1, 6, 0xFF, 0xFF, 0xFF, 0xFF], b"pixels"];
     let image = block_of(38, 0, &INFORMATION, b"pixels");
-    let both = |fascn, reserved, number| check(7, &case_of(fascn, reserved, b"RUBBISH"), (number, 2, Some(0xBC)));
+    let both = |fascn, reserved, number| check(7, &face_of(fascn, reserved, b"RUBBISH"), (number, 2, Some(0xBC)));
     (
         "the worked cases of 2026-05",
         vec![
@@ -119,14 +110,9 @@ fn face_cases() -> Group {
 // ---------------------------------------------------------------------------------------------
 // What is a record
 
-/// Each of these as the record of a FACE that is checked, and of a sheet that is written, in rooms that suffice. The count of BC is
-/// the first of the sheet.
+/// Each of these as the record of a FACE that is checked, and of a sheet that is written.
 fn each(number: u64, records: impl IntoIterator<Item = impl AsRef<[u8]>>) -> Vec<Case> {
-    let both = |record: &[u8]| {
-        let card = face(100, record, 1);
-        checked_and_written(&card, number, 0xBC, [first_place(&card.container()), 0])
-    };
-    records.into_iter().flat_map(|record| both(record.as_ref())).collect()
+    records.into_iter().flat_map(|record| both_calls(&face(100, record.as_ref(), 1), number)).collect()
 }
 
 /// The record of one image with these numbers at the front of its block: the length, and how many feature points there are.
@@ -357,70 +343,26 @@ fn rubbish() -> Group {
 // ---------------------------------------------------------------------------------------------
 // The order
 
-/// A FACE with this quality, this byte at the end of its FASC-N, this one at the end of the reserved bytes, and this record.
-fn with_faults(quality: u8, fascn: u8, reserved: u8, record: &[u8]) -> Card {
-    let mut card = face(quality, record, 1);
-    let value = card.rows[0].as_mut().expect("a BC");
-    value[83] = fascn;
-    value[87] = reserved;
-    card
+/// A FACE with no record, this byte at the end of its FASC-N and this one at the end of the reserved bytes.
+fn with_faults(fascn: u8, reserved: u8) -> Card {
+    with_ends(face(100, b"RUBBISH", 1), fascn, reserved)
 }
 
 fn order_of_rules() -> Group {
-    let both = |quality, fascn, reserved, record: &[u8], number| {
-        checked_and_written(&with_faults(quality, fascn, reserved, record), number, 0xBC, [2, 0])
-    };
-    let broken = b"RUBBISH";
     (
         "21 of a field of the header, 17, 21 of the reserved bytes and 26 in one BC: each alone, each pair, and all of them",
-        [
-            both(100, 0xEB, 0, broken, 26),
-            both(0xFF, 0xEB, 0, broken, 21),
-            both(100, 0xEA, 0, broken, 17),
-            both(100, 0xEB, 1, broken, 21),
-            both(0xFF, 0xEA, 0, broken, 21),
-            both(100, 0xEA, 1, broken, 17),
-            both(0xFF, 0xEB, 1, broken, 21),
-            both(0xFF, 0xEA, 1, broken, 21),
-        ]
-        .concat(),
+        order_in_header(|quality| face(quality, b"RUBBISH", 1), 0xFF, 26),
     )
 }
 
 fn order_of_elements() -> Group {
-    // BC of 96 bytes, one of signature; it stands at 2, and what follows it at 100
-    let bc = face(100, b"RUBBISH", 1).rows[0].clone().unwrap_or_default();
-    let with = |length: u8, value: &[u8], end: &[u8], verdict| {
-        let content = [&[0xBC, length], value, end].concat();
-        check(7, &[&[0x53, content.len() as u8], &content[..]].concat(), verdict)
-    };
-    let at_bc = |number| (number, 2, Some(0xBC));
-    let mut no_data = bc.clone();
-    no_data[5] = 0;
-    let mut other_length = bc.clone();
-    other_length[5] = 8;
     (
         "11, 12, 16 and 21 of the lengths come before 26, and 26 before all that is wrong behind BC",
-        vec![
-            with(96, &bc, &[0xFE, 0], at_bc(26)),
-            with(96, &bc, &[], at_bc(26)),
-            with(96, &bc, &[0xFE, 1, 0], at_bc(26)),
-            with(96, &bc, &[0xBC, 0, 0xFE, 0], at_bc(26)),
-            with(96, &bc, &[0x00], at_bc(26)),
-            with(96, &bc, &[0xFE], at_bc(26)),
-            with(0x80, &bc, &[0xFE, 0], at_bc(11)),
-            with(99, &bc, &[0xFE, 0], at_bc(12)),
-            with(87, &bc[..87], &[0xFE, 0], at_bc(16)),
-            with(95, &bc[..95], &[0xFE, 0], at_bc(21)),
-            with(96, &no_data, &[0xFE, 0], at_bc(21)),
-            with(96, &other_length, &[0xFE, 0], at_bc(21)),
-        ],
+        order_around_record(&face(100, b"RUBBISH", 1), 26),
     )
 }
 
 fn records_of_the_other_kind() -> Group {
-    let minutiae =
-        |card: Card| card.rows[0].as_ref().expect("a BC")[88..].split_last().expect("a signature").1.to_vec();
     let mut of_fingers = fingers(100, b'0', [0, 0]);
     let value = of_fingers.rows[0].as_mut().expect("a BC");
     value.splice(88..88 + 38, least());
@@ -428,7 +370,7 @@ fn records_of_the_other_kind() -> Group {
     (
         "a minutiae record in a FACE, and a facial record in FINGERS",
         [
-            each(26, [minutiae(fingers(100, b'0', [0, 0])), minutiae(fingers(100, b'0', [3, 5]))]),
+            each(26, [minutiae_of(fingers(100, b'0', [0, 0])), minutiae_of(fingers(100, b'0', [3, 5]))]),
             checked_and_written(&of_fingers, 22, 0xBC, [3, 0]).to_vec(),
         ]
         .concat(),
@@ -477,7 +419,7 @@ fn written_faces() -> Group {
             write(7, &face(100, &facial(&[large]), 1).sheet(), 200, Err(alone(4))),
             write(7, &face(100, &facial(&[image]), 1).sheet(), 200, at_bc(26)),
             write(7, &face(0xFF, b"RUBBISH", 1).sheet(), 200, at_bc(21)),
-            write(7, &with_faults(100, 0xEA, 0, b"RUBBISH").sheet(), 200, at_bc(17)),
+            write(7, &with_faults(0xEA, 0).sheet(), 200, at_bc(17)),
         ],
     )
 }
@@ -517,8 +459,8 @@ fn reported_faces() -> Group {
             page(&of(&[]), 110, &broken("26 2 BC")),
             page(&face(100, b"RUBBISH", 2), 103, &broken("26 2 BC")),
             page(&face(100, &RUBBISH, 40), 438, &broken("26 4 BC")),
-            page(&with_faults(100, 0xEA, 1, b"RUBBISH"), 102, &broken("17 2 BC")),
-            page(&with_faults(100, 0xEB, 1, b"RUBBISH"), 102, &broken("21 2 BC")),
+            page(&with_faults(0xEA, 1), 102, &broken("17 2 BC")),
+            page(&with_faults(0xEB, 1), 102, &broken("21 2 BC")),
         ],
     )
 }

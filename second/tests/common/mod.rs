@@ -38,6 +38,35 @@ pub fn each_call(card: &Card, row: usize, tag: u16, ahead: u64, number: u64) -> 
     (place, String::from_utf8(room[..length as usize].to_vec()).unwrap())
 }
 
+/// The fields of a facial or an iris record, which a reader of another make takes off the front one after the other.
+pub struct Fields<'a>(pub &'a [u8]);
+
+impl<'a> Fields<'a> {
+    pub fn bytes(&mut self, count: u64) -> Option<&'a [u8]> {
+        if count > self.0.len() as u64 {
+            return None;
+        }
+        let (front, rest) = self.0.split_at(count as usize);
+        self.0 = rest;
+        Some(front)
+    }
+
+    pub fn number(&mut self, bytes: u64) -> Option<u64> {
+        Some(self.bytes(bytes)?.iter().fold(0, |number, &byte| number * 256 + u64::from(byte)))
+    }
+
+    pub fn one_of(&mut self, bytes: u64, good: &[u64]) -> Option<()> {
+        good.contains(&self.number(bytes)?).then_some(())
+    }
+}
+
+/// The record of a card with a biometric.
+pub fn record_in(card: &Card) -> &[u8] {
+    let value = card.rows[0].as_ref().unwrap();
+    let signature = usize::from(value[6]) * 256 + usize::from(value[7]);
+    &value[88..value.len() - signature]
+}
+
 /// What the length at the front says, and what follows it. It is worked out by another way than the program's.
 fn length_and_rest(bytes: &[u8]) -> (usize, &[u8]) {
     let digits = usize::from(bytes[0].saturating_sub(0x80));

@@ -40,12 +40,17 @@ returns-11 : tie.Need-returns-11
 returns-11 c = let p = c .before .before in rw (p .before .before .before .match .keys11) (p .put-all11 .ensures)
 
 returns-12 : tie.Need-returns-12
-returns-12 c = let p = c .before .before in rw (← none-listed names [] _ (p .before .before .before .match .rest)) (p .put-all12 .ensures)
+returns-12 c = let p = c .before .before in rw (p .before .before .before .match .keys12) (p .put-all12 .ensures)
+
+returns-13 : tie.Need-returns-13
+returns-13 c = let p = c .before .before in rw (← none-listed names [] _ (p .before .before .before .match .rest)) (p .put-all13 .ensures)
 
 pub put-kind-spec : {M : Type 1} → statement M
 put-kind-spec =
     tie.close
     (tie.spec
+    (λ c. search needs)
+    (λ c κs. search needs)
     (λ c. search needs)
     (λ c κs. search needs)
     (λ c. search needs)
@@ -93,4 +98,6 @@ put-kind-spec =
     (λ c. search needs)
     returns-11
     (λ c. search needs)
-    returns-12)
+    returns-12
+    (λ c. search needs)
+    returns-13)

@@ -1,10 +1,11 @@
 -- `opens::put_open` meets its contract: an arm for each kind. Assumes nothing.
-use mathlib.Core.Path.{ap}
+use mathlib.Core.Path.{refl, ap}
 use borrow.Author.Needs.{needs}
 use Rattle.laws.proofs.Rooms.{same-text}
+use Rattle.container.specs.Map.{rowValues}
 use Rattle.opens.specs.Open.{openPart}
 use Rattle.opens.proofs.Openings.{nothing-open}
-use Rattle.opens.proofs.Opens.{card-open, policy-open, issuer-open, fingers-open, face-open}
+use Rattle.opens.proofs.Opens.{card-open, policy-open, issuer-open, holder-open}
 use Rattle.opens.proofs.put_open.Statement.{statement}
 use Rattle.opens.proofs.put_open.Tie as tie
 
@@ -40,30 +41,43 @@ returns-4 c =
     rw (v .before .match .keys4) (same-text (ap openPart (issuer-open (m .from) (m .to) (s .args .c .now))) (rw (v .part4 .ensures .0) at (p .put-issuer .ensures)))
 
 returns-5 : tie.Need-returns-5
+unfolding rowValues
 returns-5 c =
     let p = c .before .before in
     let v = p .before .before in
     let s = v .before .before .before .before in
     let m = s .args .map in
-    rw (v .before .match .keys5) (same-text (ap openPart (fingers-open (m .from) (m .to) (s .args .c .now))) (rw (v .part5 .ensures .0) at (p .put-biometric .ensures)))
+    rw (v .before .match .keys5) (same-text (ap openPart (holder-open (m .from) (m .to) (s .args .c .now) 6 refl)) (rw (v .part5 .ensures .0) at (p .put-biometric .ensures)))
 
 returns-6 : tie.Need-returns-6
+unfolding rowValues
 returns-6 c =
     let p = c .before .before in
     let v = p .before .before in
     let s = v .before .before .before .before in
     let m = s .args .map in
-    rw (v .before .match .keys6) (same-text (ap openPart (face-open (m .from) (m .to) (s .args .c .now))) (rw (v .part6 .ensures .0) at (p .put-biometric2 .ensures)))
+    rw (v .before .match .keys6) (same-text (ap openPart (holder-open (m .from) (m .to) (s .args .c .now) 7 refl)) (rw (v .part6 .ensures .0) at (p .put-biometric2 .ensures)))
 
 returns-7 : tie.Need-returns-7
+unfolding rowValues
+returns-7 c =
+    let p = c .before .before in
+    let v = p .before .before in
+    let s = v .before .before .before .before in
+    let m = s .args .map in
+    rw (v .before .match .keys7) (same-text (ap openPart (holder-open (m .from) (m .to) (s .args .c .now) 12 refl)) (rw (v .part7 .ensures .0) at (p .put-biometric3 .ensures)))
+
+returns-8 : tie.Need-returns-8
 unfolding openPart
-returns-7 c = let p = c .before .before in rw (← nothing-open _ (p .before .before .before .match .rest)) (p .put-all2 .ensures)
+returns-8 c = let p = c .before .before in rw (← nothing-open _ (p .before .before .before .match .rest)) (p .put-all2 .ensures)
 
 pub put-open-spec : {M : Type 1} → statement M
 put-open-spec =
     tie.close
     (tie.spec
     (λ c. search needs)
+    (λ c κs. search needs)
+    (λ c κs. search needs)
     (λ c κs. search needs)
     (λ c κs. search needs)
     (λ c κs. search needs)
@@ -91,4 +105,6 @@ put-open-spec =
     (λ c. search needs)
     returns-6
     (λ c. search needs)
-    returns-7)
+    returns-7
+    (λ c. search needs)
+    returns-8)

@@ -56,12 +56,18 @@ returns-11 c =
 returns-12 : tie.Need-returns-12
 unfolding ruleOf
 returns-12 c =
-    let t = c .before .before in
-    rw (c .judge3 .ensures, rest (t .before .before .before .args .v .now) 0, t .enum-told12 .given .1)
+    let t = c .before .before .before in
+    rw (c .judge3 .ensures, rest (t .before .before .before .args .v .now) 0, c .before .before .iris .ensures, t .enum-told12 .given .1)
 
 returns-13 : tie.Need-returns-13
 unfolding ruleOf
-returns-13 c = rw (c .unless8 .ensures, c .before .same3 .ensures, c .before .before .before .enum-told13 .given .1)
+returns-13 c =
+    let t = c .before .before in
+    rw (c .judge4 .ensures, rest (t .before .before .before .args .v .now) 0, t .enum-told13 .given .1)
+
+returns-14 : tie.Need-returns-14
+unfolding ruleOf
+returns-14 c = rw (c .unless8 .ensures, c .before .same3 .ensures, c .before .before .before .enum-told14 .given .1)
 
 pub judge-spec : {M : Type 1} → statement M
 judge-spec =
@@ -107,6 +113,12 @@ judge-spec =
     (λ c. search needs)
     (λ c κs. search needs)
     (λ c. search needs)
+    (λ c κs. search needs)
+    (λ c. search needs)
+    (λ c. search needs)
+    (λ c. search needs)
+    (λ c κs. search needs)
+    (λ c. search needs)
     (λ c. search needs)
     (λ c. search needs)
     (λ c. search needs)
@@ -127,4 +139,5 @@ judge-spec =
     returns-10
     returns-11
     returns-12
-    returns-13)
+    returns-13
+    returns-14)
