@@ -54,13 +54,14 @@ enum prosianek_kind {
     PROSIANEK_PIVAUTH = 8,
     PROSIANEK_DIGSIG = 9,
     PROSIANEK_KEYMGMT = 10,
-    PROSIANEK_CARDAUTH = 11
+    PROSIANEK_CARDAUTH = 11,
+    PROSIANEK_IRIS = 12
 };
 
 // What a call answers.
 enum prosianek_number {
     PROSIANEK_DONE = 0,             // conforms, or done
-    PROSIANEK_UNKNOWN_KIND = 1,     // the kind is not 1 to 11
+    PROSIANEK_UNKNOWN_KIND = 1,     // the kind is not 1 to 12
     PROSIANEK_NO_DATE = 2,          // today is no date
     PROSIANEK_SMALL_ROOM = 3,       // the room is too small
     PROSIANEK_LARGE_CONTAINER = 4,  // the container has over 32,768 bytes, given or to be written
@@ -84,7 +85,8 @@ enum prosianek_number {
     PROSIANEK_BAD_TEXT = 23,        // a byte that is no text
     PROSIANEK_BAD_DER = 24,         // DER item: the certificate is none, or no SEQUENCE of three parts
     PROSIANEK_TOO_DEEP = 25,        // an item of the certificate is too deep, below level 8
-    PROSIANEK_BAD_FACE = 26         // face record: its header, an image's information, or the length of a block
+    PROSIANEK_BAD_FACE = 26,        // face record: its header, an image's information, or the length of a block
+    PROSIANEK_BAD_IRIS = 27         // iris record: its header, a representation's fields, or the length of a part
 };
 
 // In all calls: kind is one of enum prosianek_kind; today is a date as an eight-digit number, such as 20260301; container
@@ -110,7 +112,7 @@ enum prosianek_number {
 //            that stands at the place.
 //   room     3 if it conforms and the room is under the sheet's length, as one of size 0 always is; else 0.
 //   length   the sheet's length; 0 where none is written.
-// Answers the verdict: 0 if it conforms; else 1, 2, 4, or the first broken rule, 10 to 26. Where it is 0 and *room is 0 too, the
+// Answers the verdict: 0 if it conforms; else 1, 2, 4, or the first broken rule, 10 to 27. Where it is 0 and *room is 0 too, the
 // room then holds the sheet and zeros; else all zeros.
 uint64_t prosianek_check(uint64_t kind, uint64_t today, const uint8_t *container, size_t size, uint8_t *sheet,
                          size_t sheet_size, uint64_t *place, uint64_t *tag, uint64_t *room, uint64_t *length);
@@ -120,9 +122,9 @@ uint64_t prosianek_check(uint64_t kind, uint64_t today, const uint8_t *container
 //   sheet    the sheet, size its bytes.
 //   container  the lent room, room its size.
 //   place    where the first broken rule is: the offset in the sheet of the row's count; 0 for 1 to 5 and on a success.
-//   tag      that of the verdict, as listed above: the row's tag for 15 to 26; PROSIANEK_NO_TAG for 1 to 5 and on a success.
+//   tag      that of the verdict, as listed above: the row's tag for 15 to 27; PROSIANEK_NO_TAG for 1 to 5 and on a success.
 //   length   the container's length; 0 on a refusal.
-// Answers 0 if the container is written; else 1, 2, 5, then row by row 15, 16 or the value's rule, 17 to 26, then 4, then 3
+// Answers 0 if the container is written; else 1, 2, 5, then row by row 15, 16 or the value's rule, 17 to 27, then 4, then 3
 // if the room is under the container's length. The room then holds the container and zeros; on a refusal all zeros.
 uint64_t prosianek_write(uint64_t kind, uint64_t today, const uint8_t *sheet, size_t size, uint8_t *container, size_t room,
                          uint64_t *place, uint64_t *tag, uint64_t *length);

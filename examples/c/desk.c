@@ -17,7 +17,7 @@
 static const uint64_t tags[] = {
     [PROSIANEK_CCC] = 0xF5,      [PROSIANEK_CHUID] = 0x30,    [PROSIANEK_DISCOVERY] = 0x5F2F, [PROSIANEK_PRINTED] = 0x06,
     [PROSIANEK_SECURITY] = 0xBA, [PROSIANEK_FINGERS] = 0xBC,  [PROSIANEK_FACE] = 0xBC,        [PROSIANEK_PIVAUTH] = 0x70,
-    [PROSIANEK_DIGSIG] = 0x70,   [PROSIANEK_KEYMGMT] = 0x70,  [PROSIANEK_CARDAUTH] = 0x70,
+    [PROSIANEK_DIGSIG] = 0x70,   [PROSIANEK_KEYMGMT] = 0x70,  [PROSIANEK_CARDAUTH] = 0x70,    [PROSIANEK_IRIS] = 0xBC,
 };
 
 // The rooms are as large as any answer, so that no call here is refused for its room. The container's has one byte more: a
@@ -120,7 +120,7 @@ static int read_file(const char *name, size_t *size) {
 static int viewed(uint64_t kind, uint64_t today, size_t size, struct verdict said) {
     struct verdict v;
     uint64_t offset, length;
-    // The kind is one of the eleven here, or the report would have been refused.
+    // The kind is one of the twelve here, or the report would have been refused.
     v.number = prosianek_view(kind, today, container, size, tags[kind], &v.place, &v.tag, &offset, &length);
     if (v.number != PROSIANEK_DONE) {
         refused("view", v);

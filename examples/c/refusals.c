@@ -58,6 +58,22 @@ static const uint8_t face[143] = {
     0x01, 0x01, 0x01, 0x00, 0x01, 0x40, 0x01, 0x02, 0x00, 0x00, 0x00, 0x00, 0x30, 0xFE, 0x00,
 };
 
+// An iris that conforms, with the smallest record: its header stands at 94, its one representation at 110, and the fields of the
+// image, which is empty, at 129.
+static const uint8_t iris[165] = {
+    0x53, 0x81, 0xA2, 0xBC, 0x81, 0x9D, 0x03, 0x0D, 0x00, 0x00, 0x00, 0x44, 0x00, 0x01, 0x01, 0x01,
+    0x00, 0x09, 0x14, 0x1A, 0x03, 0x01, 0x0A, 0x1E, 0x3B, 0x5A, 0x14, 0x1A, 0x03, 0x01, 0x0A, 0x1E,
+    0x3B, 0x5A, 0x14, 0x1A, 0x03, 0x01, 0x0A, 0x1E, 0x3B, 0x5A, 0x00, 0x00, 0x10, 0x40, 0x64, 0x00,
+    0x00, 0x00, 0x00, 0x00, 0x00, 0x00, 0x00, 0x00, 0x00, 0x00, 0x00, 0x00, 0x00, 0x00, 0x00, 0x00,
+    0x00, 0xD4, 0x11, 0x92, 0x58, 0x21, 0x0C, 0x2C, 0x10, 0x84, 0x21, 0xAD, 0xA1, 0x68, 0x58, 0x21,
+    0x08, 0x42, 0x10, 0x84, 0x3C, 0x84, 0x11, 0x92, 0x43, 0xEB, 0x00, 0x00, 0x00, 0x00, 0x49, 0x49,
+    0x52, 0x00, 0x30, 0x32, 0x30, 0x00, 0x00, 0x00, 0x00, 0x44, 0x00, 0x01, 0x00, 0x01, 0x00, 0x00,
+    0x00, 0x34, 0x07, 0xEA, 0x03, 0x01, 0x0A, 0x1E, 0x3B, 0x01, 0xF4, 0x00, 0x00, 0x00, 0x00, 0x00,
+    0x00, 0x00, 0x01, 0x01, 0x07, 0x0A, 0x55, 0x01, 0x20, 0x00, 0xD8, 0x08, 0x00, 0x00, 0x00, 0x00,
+    0x00, 0x00, 0x00, 0x90, 0x00, 0x91, 0x00, 0x6C, 0x00, 0x6D, 0x00, 0xA0, 0x01, 0x18, 0x00, 0x00,
+    0x00, 0x00, 0x30, 0xFE, 0x00,
+};
+
 static const uint8_t too_large[PROSIANEK_LARGEST_CONTAINER + 1];
 
 // What the calls are lent. The room is longer than any size that is lent of it, so that a byte written behind it shows.
@@ -170,7 +186,7 @@ static void breaks(const char *what, uint64_t kind, const uint8_t *c, size_t siz
 // The same of a container in which one byte is another.
 static void breaks_at(const char *what, uint64_t kind, const uint8_t *c, size_t size, size_t at, uint8_t byte,
                       uint64_t expected, uint64_t where, uint64_t which) {
-    uint8_t changed[sizeof face];
+    uint8_t changed[sizeof iris];
     memcpy(changed, c, size);
     changed[at] = byte;
     breaks(what, kind, changed, size, expected, where, which);
@@ -265,6 +281,39 @@ static void face_records(void) {
     breaks_at("reserved bytes and a source type", kind, both, size, 93, 1, PROSIANEK_BAD_HEADER, 3, 0xBC);
 }
 
+// The same of an iris record. Its header has an owner of its own, and knows a quality of -1.
+static void iris_records(void) {
+    const uint64_t kind = PROSIANEK_IRIS;
+    const size_t size = sizeof iris;
+    check("check, an iris record, no room", kind, TODAY, iris, size, 0, PROSIANEK_DONE);
+    breaks_at("another owner of the format", kind, iris, size, 14, 0x00, PROSIANEK_BAD_HEADER, 3, 0xBC);
+    breaks_at("a quality of -3", kind, iris, size, 46, 0xFD, PROSIANEK_BAD_HEADER, 3, 0xBC);
+    breaks_at("another format of iris record", kind, iris, size, 97, 0x20, PROSIANEK_BAD_IRIS, 3, 0xBC);
+    breaks_at("another version of iris record", kind, iris, size, 101, 0x30, PROSIANEK_BAD_IRIS, 3, 0xBC);
+    breaks_at("an iris record's length of one more", kind, iris, size, 105, 69, PROSIANEK_BAD_IRIS, 3, 0xBC);
+    breaks_at("no representation", kind, iris, size, 107, 0, PROSIANEK_BAD_IRIS, 3, 0xBC);
+    breaks_at("a representation more than there is", kind, iris, size, 107, 2, PROSIANEK_BAD_IRIS, 3, 0xBC);
+    breaks_at("a certification flag", kind, iris, size, 108, 1, PROSIANEK_BAD_IRIS, 3, 0xBC);
+    breaks_at("three eyes", kind, iris, size, 109, 3, PROSIANEK_BAD_IRIS, 3, 0xBC);
+    breaks_at("a representation of one byte less", kind, iris, size, 113, 51, PROSIANEK_BAD_IRIS, 3, 0xBC);
+    breaks_at("captured in 2010", kind, iris, size, 115, 0xDA, PROSIANEK_BAD_IRIS, 3, 0xBC);
+    breaks_at("captured in a month 13", kind, iris, size, 116, 13, PROSIANEK_BAD_IRIS, 3, 0xBC);
+    breaks_at("a quality block without room", kind, iris, size, 128, 1, PROSIANEK_BAD_IRIS, 3, 0xBC);
+    breaks_at("number 2 alone", kind, iris, size, 130, 2, PROSIANEK_BAD_IRIS, 3, 0xBC);
+    breaks_at("an eye label 3", kind, iris, size, 131, 3, PROSIANEK_BAD_IRIS, 3, 0xBC);
+    breaks_at("properties 65", kind, iris, size, 134, 0x65, PROSIANEK_BAD_IRIS, 3, 0xBC);
+    breaks_at("a width of 289 with the centre of 288", kind, iris, size, 136, 0x21, PROSIANEK_BAD_IRIS, 3, 0xBC);
+    breaks_at("a diameter of 281", kind, iris, size, 157, 0x19, PROSIANEK_BAD_IRIS, 3, 0xBC);
+
+    uint8_t both[sizeof iris];
+    memcpy(both, iris, size);
+    both[46] = 0xFF;
+    check("check, an iris of quality -1, no room", kind, TODAY, both, size, 0, PROSIANEK_DONE);
+    both[134] = 0x65;
+    breaks_at("a check character and properties", kind, both, size, 89, 0xEA, PROSIANEK_BAD_FASCN, 3, 0xBC);
+    breaks_at("reserved bytes and properties", kind, both, size, 93, 1, PROSIANEK_BAD_HEADER, 3, 0xBC);
+}
+
 static void decode(const char *what, const uint8_t *bytes, size_t size) {
     stale();
     answers(what, prosianek_fascn_decode(bytes, size, numbers), PROSIANEK_BAD_FASCN);
@@ -289,7 +338,7 @@ int main(void) {
     leaves("check", SHEET_BYTES, 100);
     memcpy(sheet, room, SHEET_BYTES);
 
-    static const uint64_t kinds[] = {0, 12, UINT64_MAX};
+    static const uint64_t kinds[] = {0, 13, UINT64_MAX};
     for (int i = 0; i < 3; i++) {
         refuses("check, bad kind", kinds[i], TODAY, chuid, sizeof chuid, PROSIANEK_UNKNOWN_KIND);
         write("write, bad kind", kinds[i], TODAY, sheet, SHEET_BYTES, 100, PROSIANEK_UNKNOWN_KIND);
@@ -332,6 +381,7 @@ int main(void) {
     rows(sheet);
     printed_dates();
     face_records();
+    iris_records();
     for (uint64_t kind = PROSIANEK_PIVAUTH; kind <= PROSIANEK_CARDAUTH; kind++) certificates(kind);
 
     // Each of the nine numbers with one digit too many; that comes before the room.

@@ -16,7 +16,7 @@ fn tag_of(kind: u64) -> u64 {
         prosianek::DISCOVERY => 0x5F2F,
         prosianek::PRINTED => 0x06,
         prosianek::SECURITY => 0xBA,
-        prosianek::FINGERS | prosianek::FACE => 0xBC,
+        prosianek::FINGERS | prosianek::FACE | prosianek::IRIS => 0xBC,
         _ => 0x70,
     }
 }

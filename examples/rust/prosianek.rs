@@ -17,6 +17,7 @@ pub const PIVAUTH: u64 = 8;
 pub const DIGSIG: u64 = 9;
 pub const KEYMGMT: u64 = 10;
 pub const CARDAUTH: u64 = 11;
+pub const IRIS: u64 = 12;
 
 /// The smallest room for a report. No report is longer.
 pub const REPORT_ROOM: usize = 512;

@@ -5,12 +5,13 @@ use mathlib.Core.Logic.{_↔_, inl, inr, ⊎-elim}
 use mathlib.Core.Bool.{true}
 use native.Mathlib.Omega.{arith}
 use native.Mathlib.Decide.{decLt}
+use lib.Dec.{eqb}
 use borrow.Author.Tests.{eqb-true, eq-eqb, leb-true, le-leb}
 use Rattle.laws.specs.Format.{Format, Agrees, end, _or_}
-use Rattle.laws.proofs.Cases.{either}
+use Rattle.laws.proofs.Cases.{and-true, and-is, either}
 use Rattle.laws.proofs.Formats.{is-agrees, or-agrees, at-least-agrees, between-agrees, both-agree, anything-agrees, any-number-agrees, numbered-agree, _next_}
 use Rattle.dates.proofs.Calendars.{exists-exact}
-use Rattle.iris.specs.Iris.{dayOf, captured, properties, lowest, highest, image, pixelsOf, pixels, picture, representation, within, iris}
+use Rattle.iris.specs.Iris.{dayOf, captured, properties, centre, image, pixelsOf, pixels, picture, representation, within, iris}
 
 day-agrees : (year month day : ℕ) → day < 256 ^ 1 → (dayOf year month .test day ≡ true) ↔ dayOf year month .says day
 day-agrees year month day h = exists-exact year month day
@@ -40,27 +41,21 @@ properties-agree n h = (
   λ (low, high, l, g, e). rw e (four low high l g),
 )
 
-lowest-agrees : (w c : ℕ) → c < 256 ^ 2 → (lowest w .test c ≡ true) ↔ lowest w .says c
-lowest-agrees w c h = (
+centre-agrees : (w lowest highest : ℕ) → highest < 256 ^ 2 → (centre w lowest .test highest ≡ true) ↔ centre w lowest .says highest
+centre-agrees w lowest highest h = (
   λ e.
-      let m : c ≡ (w + 1) / 2 = eqb-true _ _ e in
+      let t = and-true (eqb lowest ((w + 1) / 2)) (eqb highest (w / 2 + 1)) e in
+      let l : lowest ≡ (w + 1) / 2 = eqb-true _ _ (t .0) in
+      let g : highest ≡ w / 2 + 1 = eqb-true _ _ (t .1) in
       elim (decLt (w % 2) 1) [
-        | yes l ↦ inl (omega arith)
-        | no l ↦ inr (omega arith)
+        | yes even ↦ inl (omega arith, omega arith)
+        | no odd ↦ inr (omega arith, omega arith)
       ],
-  ⊎-elim (λ e. let m : c ≡ (w + 1) / 2 = omega arith in eq-eqb _ _ m) (λ e. let m : c ≡ (w + 1) / 2 = omega arith in eq-eqb _ _ m),
+  ⊎-elim (λ (l, g). middle (omega arith) (omega arith)) (λ (l, g). middle (omega arith) (omega arith)),
 )
-
-highest-agrees : (w c : ℕ) → c < 256 ^ 2 → (highest w .test c ≡ true) ↔ highest w .says c
-highest-agrees w c h = (
-  λ e.
-      let m : c ≡ w / 2 + 1 = eqb-true _ _ e in
-      elim (decLt (w % 2) 1) [
-        | yes l ↦ inl (omega arith)
-        | no l ↦ inr (omega arith)
-      ],
-  ⊎-elim (λ e. let m : c ≡ w / 2 + 1 = omega arith in eq-eqb _ _ m) (λ e. let m : c ≡ w / 2 + 1 = omega arith in eq-eqb _ _ m),
-)
+  where
+    middle : lowest ≡ (w + 1) / 2 → highest ≡ w / 2 + 1 → centre w lowest .test highest ≡ true
+    middle l g = and-is _ _ (eq-eqb _ _ l) (eq-eqb _ _ g)
 
 image-agrees : (i : ℕ) (k : Format (Unit {0})) → Agrees k → Agrees (image i k)
 image-agrees i k a =
@@ -69,8 +64,10 @@ image-agrees i k a =
       λ w _. (
         between-agrees 2 216 336,
         λ h _.
-            is-agrees 1 8 next anything-agrees 6 next lowest-agrees w next highest-agrees w next lowest-agrees h next highest-agrees h
-            next at-least-agrees 2 160 next between-agrees 2 0 280 next a,
+            is-agrees 1 8 next anything-agrees 6 next (
+              any-number-agrees 2,
+              λ x _. centre-agrees w x next (any-number-agrees 2, λ y _. centre-agrees h y next at-least-agrees 2 160 next between-agrees 2 0 280 next a),
+            ),
       ),
     )
 

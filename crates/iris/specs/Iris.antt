@@ -3,7 +3,7 @@
 use Prim.Native.Nat.{ℕ, _+_, _*_, _/_, _≤_}
 use mathlib.Core.Path.{_≡_}
 use mathlib.Core.Logic.{_⊎_}
-use mathlib.Core.Bool.{_||_}
+use mathlib.Core.Bool.{_&&_, _||_}
 use mathlib.Core.List.{List}
 use lib.ListN.{length}
 use lib.Dec.{leb, eqb}
@@ -34,12 +34,16 @@ properties = record {
   test = λ n. eqb n 0x55 || eqb n 0x56 || eqb n 0x59 || eqb n 0x5A;
 }
 
--- "Iris centre, lowest" and "highest", in a width or a height W: W/2 and W/2 + 1 where W is even, twice (W + 1)/2 where it is odd
-abbrev pub lowest : ℕ → Rule ℕ
-lowest w = record { says = λ c. (2 * c ≡ w) ⊎ (2 * c ≡ w + 1); test = λ c. eqb c ((w + 1) / 2) }
+-- "Iris centre, lowest X is (W/2 for W odd, else)", "highest X is (W/2+1 for W even)": in an even width the pair W/2 and W/2 + 1, in an odd one twice
+-- (W + 1)/2, and the same of a height; what the highest has to be, behind the lowest
+abbrev pub centre : ℕ → ℕ → Rule ℕ
+centre w lowest = record {
+  says = λ highest. ((2 * lowest ≡ w) × (highest ≡ lowest + 1)) ⊎ ((2 * lowest ≡ w + 1) × (highest ≡ lowest));
+  test = λ highest. eqb lowest ((w + 1) / 2) && eqb highest (w / 2 + 1);
+}
 
-abbrev pub highest : ℕ → Rule ℕ
-highest w = record { says = λ c. (2 * c ≡ w + 2) ⊎ (2 * c ≡ w + 1); test = λ c. eqb c (w / 2 + 1) }
+abbrev pub centred : ℕ → Format (Unit {0}) → Format (Unit {0})
+centred w k = num 2 anything tt (λ lowest. one 2 (centre w lowest) k)
 
 -- "Representation number is 1 and then, optionally, 2", "Eye label is 1 or 2", "Image type is 7", "Image format is 10", the properties,
 -- "288 ≤ W ≤ 448", "216 ≤ H ≤ 336", "Bit depth is 8", the centre, "Iris diameter, lowest is D ≥ 160", "highest is D ≤ 280"
@@ -54,8 +58,8 @@ image i k =
     (num 2 (between 216 336) tt (λ h.
     (one 1 (is 8)  -- bit depth
     (free 6  -- range, roll angle and its uncertainty
-    (one 2 (lowest w) (one 2 (highest w) (one 2 (lowest h) (one 2 (highest h)  -- centre
-    (one 2 (atLeast 160) (one 2 (between 0 280) k))))))))))))))))  -- diameter
+    (centred w (centred h  -- centre, X and Y
+    (one 2 (atLeast 160) (one 2 (between 0 280) k))))))))))))))  -- diameter
 
 -- ---- a representation: its length, the capture date, 5 bytes for the device, q quality blocks of 5 bytes, the image's fields, then its length and its
 -- bytes; the representation's length is what these parts make

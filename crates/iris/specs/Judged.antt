@@ -11,7 +11,7 @@ use Rattle.dates.specs.Calendar.{exists}
 use Rattle.records.specs.Fills.{whole}
 use Rattle.records.specs.declared.Extent.{Extent}
 use Rattle.records.specs.declared.Extent.the-variants.{Takes, None}
-use Rattle.iris.specs.Iris.{properties, lowest, highest, within}
+use Rattle.iris.specs.Iris.{properties, centre, within}
 
 -- when a representation was captured
 abbrev pub dateTests : List ℕ → List Bool
@@ -30,13 +30,10 @@ markTests i s =
 unfoldable pub marksHold : ℕ → List ℕ → Bool
 marksHold i s = all (markTests i s)
 
-abbrev pub centred : ℕ → ℕ → ℕ → Bool
-centred w low high = lowest w .test low && highest w .test high
-
 abbrev pub shapeTests : List ℕ → List Bool
 shapeTests s =
     between 288 448 .test (field s 6 2) ∷ between 216 336 .test (field s 8 2) ∷ eqb (field s 10 1) 8
-    ∷ centred (field s 6 2) (field s 17 2) (field s 19 2) ∷ centred (field s 8 2) (field s 21 2) (field s 23 2)
+    ∷ centre (field s 6 2) (field s 17 2) .test (field s 19 2) ∷ centre (field s 8 2) (field s 21 2) .test (field s 23 2)
     ∷ leb 160 (field s 25 2) ∷ leb (field s 27 2) 280 ∷ []
 
 unfoldable pub shapeHolds : List ℕ → Bool

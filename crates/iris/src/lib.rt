@@ -3,8 +3,8 @@ ghost use mathlib.Core.Path.{_≡_};
 ghost use Prim.Native.Nat.{_^_, _<_, _≤_};
 ghost use lib.ListN.{length};
 ghost use Rattle.records.specs.Fills.{fills};
-ghost use Rattle.iris.specs.Iris.{properties};
-ghost use Rattle.iris.specs.Judged.{dateHolds, marksHold, centred, shapeHolds, imageHolds, extent, extentOf, recordHead, isIris};
+ghost use Rattle.iris.specs.Iris.{properties, centre};
+ghost use Rattle.iris.specs.Judged.{dateHolds, marksHold, shapeHolds, imageHolds, extent, extentOf, recordHead, isIris};
 use dates::exists;
 use numbers::number;
 use records::Extent;
@@ -34,7 +34,7 @@ fn has_properties(n: u64) -> bool
 // The centre of a width or a height W: W/2 and W/2 + 1 where W is even, twice (W + 1)/2 where it is odd.
 fn is_centre(size: u64, lowest: u64, highest: u64) -> bool
     requires { ⌜ size < 256 ^ 2 ⌝ }
-    ensures { λ r. ⌜ r ≡ centred size lowest highest ⌝ }
+    ensures { λ r. ⌜ r ≡ centre size lowest .test highest ⌝ }
 {
     (lowest == (size + 1) / 2) & (highest == size / 2 + 1)
 }

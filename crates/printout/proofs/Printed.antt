@@ -54,7 +54,7 @@ text-fits s room =
 
 -- ---- an input that asks for a container of a kind under a date
 
-as-written : (kindText 2 ≡ ascii "02") × (kindText 11 ≡ ascii "11")
+as-written : (kindText 2 ≡ ascii "02") × (kindText 12 ≡ ascii "12")
 as-written = (refl, refl)
 
 -- a kind is below 100

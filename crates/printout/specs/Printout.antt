@@ -1,6 +1,6 @@
 -- 01: "The desk program reads standard input: one digit for the kind, eight for today, then a container of up to 32,768 bytes; it prints the report, or
 -- `refused N`. No bytes at all, or a first byte that is not 1 to 7, is refusal 1; a date cut short or not all digits is 2." Of the kind 2026-04 says:
--- "given as two digits to the program, as are all kinds from then on (01 to 11; a lone byte or another pair is 1)"
+-- "given as two digits to the program, as are all kinds from then on (01 to 11; a lone byte or another pair is 1)"; since 2026-06 they are 01 to 12
 use Prim.Native.Nat.{ℕ, _+_, _-_, _*_, _/_, _%_}
 use mathlib.Core.Path.{_≡_}
 use mathlib.Core.Bool.{cond, _&&_}

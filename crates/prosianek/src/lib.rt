@@ -1,7 +1,7 @@
 // The door: the six calls, and nothing else. Each contract is one record of specs/Calls.antt.
 //
-// kind is 1 CCC, 2 CHUID, 3 DISCOVERY, 4 PRINTED, 5 SECURITY, 6 FINGERS, 7 FACE, 8 PIVAUTH, 9 DIGSIG, 10 KEYMGMT, 11 CARDAUTH;
-// today is a date as an eight-digit number.
+// kind is 1 CCC, 2 CHUID, 3 DISCOVERY, 4 PRINTED, 5 SECURITY, 6 FINGERS, 7 FACE, 8 PIVAUTH, 9 DIGSIG, 10 KEYMGMT, 11 CARDAUTH,
+// 12 IRIS; today is a date as an eight-digit number.
 // Every input gets an answer. A room that is lent holds the output afterwards, and zeros: nothing of what was there.
 ghost use Rattle.prosianek.specs.Calls.{Checks, Writes, Views, Reports, Decodes, Encodes};
 use fascn::Decoded;
