@@ -7,12 +7,12 @@ use Prim.Native.Nat.{ℕ}
 use native.Mathlib.Omega.{arith}
 use lib.Dec.{eqb}
 use lib.ListN.{length}
-use borrow.Author.Tests.{eqb-true, eq-eqb}
+use borrow.Author.Tests.{eqb-true, eq-eqb, ne-eqb}
 use Rattle.laws.specs.Bytes.{Bytes}
 use Rattle.laws.proofs.Cases.{which, and-true, and-is, not-so}
 use Rattle.fascn.specs.Fascn.{encoded, IsFascnOf, IsFascn}
 use Rattle.fascn.specs.Calls.{success, refused}
-use Rattle.fascn.specs.Reading.{valuesOf, framed, fields, decoded, isFascn}
+use Rattle.fascn.specs.Reading.{valuesOf, framed, field, fields, decoded, isFascn, originOf}
 use Rattle.fascn.specs.declared.Numbers.{Numbers}
 use Rattle.fascn.specs.declared.Decoded.{Decoded}
 use Rattle.fascn.proofs.Framing.{checked-framed, fields-checked, framed-range, framed-checked}
@@ -100,3 +100,21 @@ is-framed-fascn s l =
       | inl h ↦ rw (h, ← well-framed s l h)
       | inr h ↦ rw (h, ← not-framed s h)
     ]
+
+-- ---- the agency and the system of bytes that are a FASC-N
+
+pub origin-exact : (s : List ℕ) → IsFascn s → (originOf s .agency ≡ decoded s .numbers .agency) × (originOf s .system ≡ decoded s .numbers .system)
+unfolding originOf decoded
+origin-exact s f =
+    elim (which (passes s)) [
+      | inl p ↦ let l = and-true (eqb (length s) 25) _ p .0 in (rw (p, l), rw (p, l))
+      | inr p ↦ let z : refused ≡ success (f .0) = rw p at (complete s (f .0) (f .1)) in let y : _≡_ {A = ℕ} 17 0 = ap (λ (d : Decoded). d .number) z in absurd (omega arith)
+    ]
+
+pub no-origin : (s : List ℕ) → (length s ≡ 25 → ⊥) → record { agency = 0; system = 0 } ≡ originOf s
+unfolding originOf
+no-origin s h = rw (ne-eqb _ _ h)
+
+pub read-origin : (s vs : List ℕ) → length s ≡ 25 → vs ≡ valuesOf s → record { agency = field vs 1 4; system = field vs 6 4 } ≡ originOf s
+unfolding originOf
+read-origin s vs l e = rw (eq-eqb _ _ l, e)

@@ -12,6 +12,7 @@ use Rattle.fascn.specs.Fascn.{exclusive}
 use Rattle.fascn.specs.Calls.{success, refused}
 use Rattle.fascn.specs.declared.Numbers.{Numbers}
 use Rattle.fascn.specs.declared.Decoded.{Decoded}
+use Rattle.fascn.specs.declared.Origin.{Origin}
 
 -- the value of a character: its upper four bits, lowest first
 abbrev pub plain : ℕ → ℕ
@@ -66,3 +67,7 @@ decoded bytes = cond (eqb (length bytes) 25 && framed (valuesOf bytes)) (success
 -- the bytes are a FASC-N, as a test
 unfoldable pub isFascn : List ℕ → Bool
 isFascn bytes = eqb (decoded bytes .number) 0
+
+-- the agency and the system where they stand in 25 bytes; of a FASC-N they are those that decoding gives (`origin-exact`)
+unfoldable pub originOf : List ℕ → Origin
+originOf bytes = cond (eqb (length bytes) 25) (record { agency = field (valuesOf bytes) 1 4; system = field (valuesOf bytes) 6 4 }) (record { agency = 0; system = 0 })

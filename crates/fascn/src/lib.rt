@@ -8,7 +8,7 @@ ghost use Rattle.laws.specs.Digits.{digits, value, stored, groups};
 ghost use Rattle.laws.specs.Layout.{part};
 ghost use Rattle.laws.specs.Tests.{each};
 ghost use Rattle.fascn.specs.Fascn.{symbol, exclusive, values, checked, encoded, inRange};
-ghost use Rattle.fascn.specs.Reading.{valueOf, isDigit, framed, fields, decoded, isFascn};
+ghost use Rattle.fascn.specs.Reading.{valueOf, isDigit, framed, fields, decoded, isFascn, originOf};
 ghost use Rattle.fascn.specs.Calls.{refused, Encoded};
 
 pub struct Numbers {
@@ -21,6 +21,12 @@ pub struct Numbers {
     pub category: u64,
     pub organisation: u64,
     pub association: u64,
+}
+
+// Where a card is from.
+pub struct Origin {
+    pub agency: u64,
+    pub system: u64,
 }
 
 // What decoding answers: 0 and the numbers, or 17 and nine zeros.
@@ -200,6 +206,26 @@ pub fn decode(bytes: &[u8]) -> Decoded
     Decoded {
         number: 0,
         numbers: fields(v),
+    }
+}
+
+// The agency and the system where they stand in 25 bytes. That these are a FASC-N is not asked: it is for those who know it, and
+// spares them the frame and seven numbers.
+pub fn origin_of(bytes: &[u8]) -> Origin
+    ensures { λ r. ⌜ r ≡ originOf (now (bytes .entry)) ⌝ }
+{
+    if bytes.len() != 25 {
+        return Origin {
+            agency: 0,
+            system: 0,
+        };
+    }
+    let v = values_of(unpack(&bytes[0..]));
+    let agency = number(v, 1, 4, 10);
+    let system = number(v, 6, 4, 10);
+    Origin {
+        agency: agency,
+        system: system,
     }
 }
 

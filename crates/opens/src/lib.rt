@@ -6,25 +6,25 @@ ghost use Prim.Native.Nat.{ℕ};
 ghost use lib.ListN.{length};
 ghost use Rattle.laws.specs.Room.{Put};
 ghost use Rattle.texts.specs.Text.{ascii, digitsLine};
-ghost use Rattle.fascn.specs.Reading.{decoded};
+ghost use Rattle.fascn.specs.Reading.{originOf};
 ghost use Rattle.dates.specs.Date.{dateOf};
 ghost use Rattle.kinds.specs.Tables.{table};
 ghost use Rattle.container.specs.Container.{Allowed};
 ghost use Rattle.container.specs.Map.{Inside, rowValues};
-ghost use Rattle.opens.specs.Open.{holder, card, policy, issuer, agencyOf, systemOf, inHeader, openOf, openPart};
+ghost use Rattle.opens.specs.Open.{holder, card, policy, issuer, inHeader, openOf, openPart};
 ghost use Rattle.opens.specs.Day.{dayNumber};
 use container::Map;
 use dates::Date;
-use fascn::Decoded;
+use fascn::Origin;
 
 // The FASC-N of a biometric record stands at 59 of the value of BC.
-fn in_header(v: &[u8]) -> Decoded
-    ensures { λ r. ⌜ r ≡ decoded (inHeader (now (v .entry))) ⌝ }
+fn in_header(v: &[u8]) -> Origin
+    ensures { λ r. ⌜ r ≡ originOf (inHeader (now (v .entry))) ⌝ }
 {
     if v.len() < 84 {
-        return fascn::decode(&v[0..0]);
+        return fascn::origin_of(&v[0..0]);
     }
-    fascn::decode(&v[59..84])
+    fascn::origin_of(&v[59..84])
 }
 
 // The number of a text date.
@@ -47,10 +47,10 @@ fn put_holder(name: &[u8], agency: u64, system: u64, out: &mut [u8]) -> usize
 
 // "CHUID agency, system, expires"
 fn put_chuid(fascn: &[u8], expiry: &[u8], out: &mut [u8]) -> usize
-    ensures { λ r. ⌜ Put (openPart (card (agencyOf (now (fascn .entry))) (systemOf (now (fascn .entry))) (dayNumber (dateOf (now (expiry .entry)))))) (now (out .entry)) (now (out .exit)) r ⌝ }
+    ensures { λ r. ⌜ Put (openPart (card (originOf (now (fascn .entry)) .agency) (originOf (now (fascn .entry)) .system) (dayNumber (dateOf (now (expiry .entry)))))) (now (out .entry)) (now (out .exit)) r ⌝ }
 {
-    let numbers = fascn::decode(fascn).numbers;
-    let at = put_holder(b"OPEN 3\nagency ", numbers.agency, numbers.system, out);
+    let origin = fascn::origin_of(fascn);
+    let at = put_holder(b"OPEN 3\nagency ", origin.agency, origin.system, out);
     at + texts::put_digits(b"expires ", 8, day_number(expiry), &mut out[at..])
 }
 
@@ -75,14 +75,14 @@ fn put_issuer(v: &[u8], out: &mut [u8]) -> usize
 
 // "FINGERS and FACE agency, system", and so of IRIS
 fn put_biometric(v: &[u8], out: &mut [u8]) -> usize
-    ensures { λ r. ⌜ Put (openPart (holder (agencyOf (inHeader (now (v .entry)))) (systemOf (inHeader (now (v .entry)))))) (now (out .entry)) (now (out .exit)) r ⌝ }
+    ensures { λ r. ⌜ Put (openPart (holder (originOf (inHeader (now (v .entry))) .agency) (originOf (inHeader (now (v .entry))) .system))) (now (out .entry)) (now (out .exit)) r ⌝ }
 {
-    let numbers = in_header(v).numbers;
-    put_holder(b"OPEN 2\nagency ", numbers.agency, numbers.system, out)
+    let origin = in_header(v);
+    put_holder(b"OPEN 2\nagency ", origin.agency, origin.system, out)
 }
 
 // "CCC `model 10`"; of SECURITY and of the certificates nothing; the others from the values of the rows that are open, by their
-// numbers from 0. The values have to be allowed under some date, so that an expiry is a date.
+// numbers from 0. The values have to be allowed under some date, so that an expiry is a date and a FASC-N is one.
 pub fn put_open(kind: u64, c: &[u8], map: Map, out: &mut [u8]) -> usize
     requires { ⌜ Inside (map .from) (map .to) (length (now c)) ⌝ }
     requires { ⌜ ((today : ℕ) × Allowed today (table kind) (rowValues (map .from) (map .to) (now c) (length (table kind)) 0)) ⌝ }

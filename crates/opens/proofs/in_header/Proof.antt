@@ -6,7 +6,7 @@ use Rattle.opens.proofs.in_header.Statement.{statement}
 use Rattle.opens.proofs.in_header.Tie as tie
 
 returns : tie.Need-returns
-returns c = c .decode .ensures ∙ no-header (c .before .before .before .before .args .v .now) (c .before .before .if1 .taken)
+returns c = c .origin-of .ensures ∙ no-header (c .before .before .before .before .args .v .now) (c .before .before .if1 .taken)
 
 pub in-header-spec : {M : Type 1} → statement M
 in-header-spec =

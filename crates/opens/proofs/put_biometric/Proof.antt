@@ -8,7 +8,7 @@ returns : tie.Need-returns
 unfolding openPart
 returns c =
     let p = c .before .before in
-    let h = p .before .before .before .before in
+    let h = p .before .before .before in
     rw (h .in-header .ensures) at (p .put-holder .ensures)
 
 pub put-biometric-spec : {M : Type 1} → statement M

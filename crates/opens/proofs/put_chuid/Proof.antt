@@ -11,8 +11,8 @@ returns c =
     let e = c .before .before in
     let d = e .before .before in
     let p = d .before .before .before .before in
-    let f = p .before .before .before .before in
-    then (rw (f .decode .ensures) at (p .put-holder .ensures)) (rw (d .day-number .ensures) at (e .put-digits .ensures))
+    let f = p .before .before .before in
+    then (rw (f .origin-of .ensures) at (p .put-holder .ensures)) (rw (d .day-number .ensures) at (e .put-digits .ensures))
 
 pub put-chuid-spec : {M : Type 1} → statement M
 put-chuid-spec =

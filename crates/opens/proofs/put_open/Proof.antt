@@ -1,13 +1,17 @@
 -- `opens::put_open` meets its contract: an arm for each kind. Assumes nothing.
-use mathlib.Core.Path.{refl, ap}
+use mathlib.Core.Path.{ap}
 use borrow.Author.Needs.{needs}
+use Rattle.laws.specs.Bytes.{Bytes}
+use Rattle.laws.proofs.Bases.{below-of}
 use Rattle.laws.proofs.Rooms.{same-text}
-use Rattle.container.specs.Map.{rowValues}
 use Rattle.opens.specs.Open.{openPart}
 use Rattle.opens.proofs.Openings.{nothing-open}
-use Rattle.opens.proofs.Opens.{card-open, policy-open, issuer-open, holder-open}
+use Rattle.opens.proofs.Opens.{card-open, policy-open, issuer-open, fingers-open, face-open, iris-open}
 use Rattle.opens.proofs.put_open.Statement.{statement}
 use Rattle.opens.proofs.put_open.Tie as tie
+
+bytes : (c : tie.After-shared-slice-known) → Bytes (c .before .args .c .now)
+bytes c = below-of 256 (c .before .args .c .now) (λ k. c .shared-slice-known .given k .fits)
 
 returns : tie.Need-returns
 unfolding openPart
@@ -41,31 +45,34 @@ returns-4 c =
     rw (v .before .match .keys4) (same-text (ap openPart (issuer-open (m .from) (m .to) (s .args .c .now))) (rw (v .part4 .ensures .0) at (p .put-issuer .ensures)))
 
 returns-5 : tie.Need-returns-5
-unfolding rowValues
 returns-5 c =
     let p = c .before .before in
     let v = p .before .before in
+    let k = v .before .match .keys5 in
     let s = v .before .before .before .before in
     let m = s .args .map in
-    rw (v .before .match .keys5) (same-text (ap openPart (holder-open (m .from) (m .to) (s .args .c .now) 6 refl)) (rw (v .part5 .ensures .0) at (p .put-biometric .ensures)))
+    let (today, a) = s .pre .1 in
+    rw k (same-text (ap openPart (fingers-open (m .from) (m .to) (s .args .c .now) (bytes (v .before .before .before)) today (rw k at a))) (rw (v .part5 .ensures .0) at (p .put-biometric .ensures)))
 
 returns-6 : tie.Need-returns-6
-unfolding rowValues
 returns-6 c =
     let p = c .before .before in
     let v = p .before .before in
+    let k = v .before .match .keys6 in
     let s = v .before .before .before .before in
     let m = s .args .map in
-    rw (v .before .match .keys6) (same-text (ap openPart (holder-open (m .from) (m .to) (s .args .c .now) 7 refl)) (rw (v .part6 .ensures .0) at (p .put-biometric2 .ensures)))
+    let (today, a) = s .pre .1 in
+    rw k (same-text (ap openPart (face-open (m .from) (m .to) (s .args .c .now) (bytes (v .before .before .before)) today (rw k at a))) (rw (v .part6 .ensures .0) at (p .put-biometric2 .ensures)))
 
 returns-7 : tie.Need-returns-7
-unfolding rowValues
 returns-7 c =
     let p = c .before .before in
     let v = p .before .before in
+    let k = v .before .match .keys7 in
     let s = v .before .before .before .before in
     let m = s .args .map in
-    rw (v .before .match .keys7) (same-text (ap openPart (holder-open (m .from) (m .to) (s .args .c .now) 12 refl)) (rw (v .part7 .ensures .0) at (p .put-biometric3 .ensures)))
+    let (today, a) = s .pre .1 in
+    rw k (same-text (ap openPart (iris-open (m .from) (m .to) (s .args .c .now) (bytes (v .before .before .before)) today (rw k at a))) (rw (v .part7 .ensures .0) at (p .put-biometric3 .ensures)))
 
 returns-8 : tie.Need-returns-8
 unfolding openPart
