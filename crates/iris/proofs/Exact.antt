@@ -9,7 +9,7 @@ use native.Mathlib.Nat.{add-zero}
 use lib.ListN.{length, drop, length-drop}
 use lib.Seq.{drop-drop}
 use lib.Dec.{eqb, leb·zero}
-use borrow.Author.Tests.{eq-eqb, eqb-true}
+use borrow.Author.Tests.{eq-eqb, eqb-true, le-leb}
 use Rattle.laws.specs.Bytes.{Bytes}
 use Rattle.laws.specs.Layout.{field}
 use Rattle.laws.specs.Format.{Format, end, breaks, numbered}
@@ -18,7 +18,7 @@ use Rattle.laws.proofs.Formats.{skim, cond-and}
 use Rattle.records.specs.declared.Extent.the-variants.{Takes}
 use Rattle.records.proofs.Exact.{Extends, whole-exact}
 use Rattle.iris.specs.Iris.{captured, image, pixels, picture, representation, iris, IsIris}
-use Rattle.iris.specs.Judged.{dateHolds, marksHold, shapeHolds, imageHolds, extent, extentOf, recordHead, isIris}
+use Rattle.iris.specs.Judged.{dateHolds, marksHold, shapeHolds, imageHolds, partsHold, extent, extentOf, recordHead, isIris}
 use Rattle.iris.proofs.Agreed.{iris-agrees}
 use Rattle.iris.proofs.Told.{told}
 use Rattle.iris.proofs.Ways.{takes}
@@ -114,7 +114,10 @@ representations i = record { test = represented i; size = size; judged = represe
         let q : blocks at d ≡ field (drop at d) 18 1 = simp drop-drop in
         let m : said at d ≡ field (drop at d) 0 4 = simp (drop-drop, add-zero) in
         let n : imaged at d ≡ field (drop at d) (48 + 5 * blocks at d) 4 = simp drop-drop in
-        rw (← w) (sym (takes i (drop at d) (omega arith) (blocks at d) q (omega arith) (sym (b .0)) (rw drop-drop (sym (p .0))) (said at d) (imaged at d) m n w (omega arith)))
+        let k : imageHolds i (drop (19 + 5 * blocks at d) (drop at d)) ≡ true = rw drop-drop (p .0) in
+        let f : said at d ≤ length (drop at d) = omega arith in
+        let h : partsHold i (blocks at d) (drop at d) ≡ true = rw (← m, ← n) (and-is _ _ (and-is _ _ (and-is _ _ (b .0) k) (p .1)) (le-leb _ _ f)) in
+        rw (← w) (sym (takes i (drop at d) (omega arith) (blocks at d) q (omega arith) (sym h) m))
 
 record-judged : (d : List ℕ) → skim (iris (length d)) 0 d ≡ cond (recordHead (field d 12 2) d) (skim (numbered (field d 12 2) representation (end tt)) 16 d) (breaks tt)
 unfolding recordHead

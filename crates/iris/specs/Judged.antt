@@ -45,11 +45,13 @@ imageHolds i s = marksHold i s && shapeHolds s
 -- a representation with q quality blocks: how many bytes it takes, if one with this number stands at the front of s
 abbrev pub partsTests : ℕ → ℕ → List ℕ → List Bool
 partsTests i q s =
-    leb (52 + 5 * q) (length s) ∷ dateHolds s ∷ imageHolds i (drop (19 + 5 * q) s)
-    ∷ eqb (field s 0 4) (52 + 5 * q + field s (48 + 5 * q) 4) ∷ leb (field s 0 4) (length s) ∷ []
+    dateHolds s ∷ imageHolds i (drop (19 + 5 * q) s) ∷ eqb (field s 0 4) (52 + 5 * q + field s (48 + 5 * q) 4) ∷ leb (field s 0 4) (length s) ∷ []
+
+abbrev pub partsHold : ℕ → ℕ → List ℕ → Bool
+partsHold i q s = all (partsTests i q s)
 
 abbrev pub sized : ℕ → ℕ → List ℕ → Extent
-sized i q s = cond (all (partsTests i q s)) (Takes (field s 0 4)) None
+sized i q s = cond (leb (52 + 5 * q) (length s)) (cond (partsHold i q s) (Takes (field s 0 4)) None) None
 
 unfoldable pub extent : ℕ → List ℕ → Extent
 extent i s = cond (leb 52 (length s)) (sized i (field s 18 1) s) None

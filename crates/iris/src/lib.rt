@@ -86,18 +86,12 @@ fn representation(s: &[u8], index: u64) -> Extent
     if s.len() < 52 + blocks {
         return Extent::None;
     }
-    if !date_holds(s) {
-        return Extent::None;
-    }
-    if !image_holds(&s[19 + blocks..], index) {
-        return Extent::None;
-    }
     let size = number(s, 0, 4) as usize;
-    let image = number(s, 48 + blocks, 4) as usize;
-    if size != 52 + blocks + image {
-        return Extent::None;
-    }
-    if s.len() < size {
+    let parts = 52 + blocks + number(s, 48 + blocks, 4) as usize;
+    if !(date_holds(s)
+        & image_holds(&s[19 + blocks..], index)
+        & (size == parts)
+        & (size <= s.len())) {
         return Extent::None;
     }
     Extent::Takes(size)

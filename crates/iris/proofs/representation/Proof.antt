@@ -1,63 +1,35 @@
 -- `iris::representation` meets its contract. Assumes nothing.
 use Prim.Native.Nat.{_+_, _*_}
 use mathlib.Core.Path.{_≡_, sym, _∙_}
-use mathlib.Core.Bool.{true}
+use mathlib.Core.Bool.{_&&_}
 use native.Mathlib.Omega.{arith}
 use borrow.Author.Needs.{needs}
 use borrow.Author.Tests.{not-true, not-false}
-use lib.ListN.{drop}
+use lib.Dec.{leb, eqb}
+use lib.ListN.{length}
 use Rattle.laws.proofs.Turns.{rest}
-use Rattle.iris.specs.Judged.{dateHolds, imageHolds}
-use Rattle.iris.proofs.Ways.{too-short, no-blocks, bad-date, bad-image, bad-length, cut-short, takes}
+use Rattle.iris.specs.Judged.{partsHold}
+use Rattle.iris.proofs.Ways.{too-short, no-blocks, bad-parts, takes}
 use Rattle.iris.proofs.representation.Statement.{statement}
 use Rattle.iris.proofs.representation.Tie as tie
 
-returns-2 : tie.Need-returns-2
-returns-2 c = no-blocks _ _ (omega arith) _ (c .before .number .ensures .0) (omega arith)
+-- where all is read: what the last test says
+tested : (c : tie.After-image-holds) → let d = c .before .before in let n = d .before in let m = n .before in let q = m .before .before in let s = q .before .before .before .args in
+    (d .date-holds .result && c .image-holds .result && eqb (m .number2 .result) (52 + 5 * q .number .result + n .number3 .result) && leb (m .number2 .result) (length (s .s .now)))
+    ≡ partsHold (s .index) (q .number .result) (s .s .now)
+tested c =
+    let d = c .before .before in
+    rw (d .date-holds .ensures, rw rest at (c .image-holds .ensures), d .before .number3 .ensures .0, d .before .before .number2 .ensures .0)
 
 returns-3 : tie.Need-returns-3
 returns-3 c =
-    let n = c .before .before .before in
-    bad-date _ _ (omega arith) _ (n .number .ensures .0) (omega arith) (sym (not-true _ (c .if3 .taken)) ∙ c .before .date-holds .ensures)
-
--- where the date is known
-dated : (c : tie.Else3) → true ≡ dateHolds (c .before .before .before .before .before .before .args .s .now)
-dated c = sym (not-false _ (c .if3 .left)) ∙ c .before .date-holds .ensures
+    let m = c .before .before .before .before .before in
+    bad-parts _ _ (omega arith) _ (m .before .before .number .ensures .0) (omega arith) (sym (not-true _ (c .if3 .taken)) ∙ tested (c .before))
 
 returns-4 : tie.Need-returns-4
 returns-4 c =
-    let t = c .before .before .before in
-    bad-image _ _ (omega arith) _ (t .before .before .before .number .ensures .0) (omega arith) (dated t)
-    (sym (not-true _ (c .if4 .taken)) ∙ rw rest at (c .before .image-holds .ensures))
-
--- where the image is known
-pictured : (c : tie.Else4) → let t = c .before .before .before in
-    true ≡ imageHolds (t .before .before .before .before .before .before .args .index) (drop (19 + 5 * t .before .before .before .number .result) (t .before .before .before .before .before .before .args .s .now))
-pictured c = sym (not-false _ (c .if4 .left)) ∙ rw rest at (c .before .image-holds .ensures)
-
-returns-5 : tie.Need-returns-5
-returns-5 c =
-    let n = c .before in
-    let p = n .before .before in
-    let t = p .before .before .before in
-    bad-length _ _ (omega arith) _ (t .before .before .before .number .ensures .0) (omega arith) (dated t) (pictured p) _ _
-    (n .before .number2 .ensures .0) (n .number3 .ensures .0) (c .if5 .taken)
-
-returns-6 : tie.Need-returns-6
-returns-6 c =
-    let n = c .before .before in
-    let p = n .before .before in
-    let t = p .before .before .before in
-    cut-short _ _ (omega arith) _ (t .before .before .before .number .ensures .0) (omega arith) (dated t) (pictured p) _ _
-    (n .before .number2 .ensures .0) (n .number3 .ensures .0) (c .before .if5 .left) (c .if6 .taken)
-
-returns-7 : tie.Need-returns-7
-returns-7 c =
-    let n = c .before .before in
-    let p = n .before .before in
-    let t = p .before .before .before in
-    takes _ _ (omega arith) _ (t .before .before .before .number .ensures .0) (omega arith) (dated t) (pictured p) _ _
-    (n .before .number2 .ensures .0) (n .number3 .ensures .0) (c .before .if5 .left) (omega arith)
+    let m = c .before .before .before .before .before in
+    takes _ _ (omega arith) _ (m .before .before .number .ensures .0) (omega arith) (sym (not-false _ (c .if3 .left)) ∙ tested (c .before)) (m .number2 .ensures .0)
 
 pub representation-spec : {M : Type 1} → statement M
 representation-spec =
@@ -67,20 +39,17 @@ representation-spec =
     (λ c κs. search needs)
     (λ c. search needs)
     (λ c. search needs)
-    returns-2
+    (λ c. no-blocks _ _ (omega arith) _ (c .before .number .ensures .0) (omega arith))
+    (λ c κs. search needs)
+    (λ c. search needs)
+    (λ c. search needs)
+    (λ c κs. search needs)
+    (λ c. search needs)
+    (λ c κs. search needs)
+    (λ c. search needs)
+    (λ c. search needs)
+    (λ c. search needs)
+    (λ c. search needs)
     (λ c κs. search needs)
     returns-3
-    (λ c. search needs)
-    (λ c. search needs)
-    (λ c. search needs)
-    (λ c. search needs)
-    (λ c κs. search needs)
-    returns-4
-    (λ c κs. search needs)
-    (λ c. search needs)
-    (λ c κs. search needs)
-    (λ c. search needs)
-    (λ c. search needs)
-    returns-5
-    returns-6
-    returns-7)
+    returns-4)
