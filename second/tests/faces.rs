@@ -1,32 +1,18 @@
 //! The facial record of request 2026-05.
 
-use second::batch::Call;
-use second::card::CONFORMS;
 use second::faces::{self, around, block_for_any_points, facial, least, Image, FIELDS, LEAST_RECORD};
-use second::generate::{conforming, personal_twin, value_of, Inputs, Rng, EXAMPLE_DAY};
-use second::samples::{self, face, portrait, wrong_fascn, PICTURE};
+use second::generate::Rng;
+use second::samples::{face, portrait, PICTURE};
 use std::collections::BTreeSet;
 
 mod common;
-use common::{record_in, verdict, Fields};
-
-const ROUNDS: usize = 20_000;
+use common::{picture_of, two_bytes, Biometric, Counts, Fields, ROUNDS};
 
 // ---------------------------------------------------------------------------------------------
 // What is a record
 
-fn number_of(record: &[u8]) -> u64 {
-    verdict(7, EXAMPLE_DAY, &face(100, record, 1).container()).0
-}
-
-/// 26, or 0 for a record.
-fn expected(good: bool) -> u64 {
-    if good {
-        0
-    } else {
-        26
-    }
-}
+const FACE: Biometric =
+    Biometric { kind: 7, name: "FACE", broken: 26, card: face, least, is_record: |record| read(record).is_some() };
 
 /// Goes through a record to its end, if it is one.
 fn read(record: &[u8]) -> Option<()> {
@@ -51,11 +37,6 @@ fn read(record: &[u8]) -> Option<()> {
     fields.0.is_empty().then_some(())
 }
 
-/// The number by that reader.
-fn judged_by_reading(record: &[u8]) -> u64 {
-    expected(read(record).is_some())
-}
-
 /// A record written out: 14 bytes of header, and for each image 20, 8 for each feature point, 12, and the pixels.
 #[test]
 fn layout() {
@@ -67,7 +48,7 @@ fn layout() {
         &[0, 0, 0, 0],
     ];
     assert_eq!(least(), one.concat());
-    assert_eq!((least().len(), number_of(&least())), (LEAST_RECORD, 0));
+    assert_eq!((least().len(), FACE.number_of(&least())), (LEAST_RECORD, 0));
 
     let two: [&[u8]; 9] = [
         &[0x46, 0x41, 0x43, 0x00, 0x30, 0x31, 0x30, 0x00, 0, 0, 1, 101, 0, 2],
@@ -83,7 +64,7 @@ fn layout() {
     let first = Image { data_type: 1, source_type: 6, ..Image::plain(2, 0) };
     let first = Image { width: 1, height: 2, device_type: 3, quality: 4, ..first };
     assert_eq!(facial(&[first, Image::plain(0, 263)]), two.concat());
-    assert_eq!(number_of(&two.concat()), 0);
+    assert_eq!(FACE.number_of(&two.concat()), 0);
 }
 
 /// The sample with a picture: a JPEG 2000 file of the width and the height that the record says.
@@ -91,16 +72,9 @@ fn layout() {
 fn portrait_is_true() {
     let image = portrait();
     assert_eq!(image.pixels, PICTURE);
-    assert_eq!(PICTURE[..12], [0, 0, 0, 12, b'j', b'P', b' ', b' ', 0x0D, 0x0A, 0x87, 0x0A]);
-    let at = PICTURE.windows(4).position(|four| four == b"ihdr").unwrap() + 4;
-    let size = [u32::from(image.height).to_be_bytes(), u32::from(image.width).to_be_bytes()].concat();
-    assert_eq!(PICTURE[at..at + 8], size);
+    picture_of(PICTURE, image.width, image.height);
     assert_eq!((image.data_type, image.points.len()), (1, 3));
-
-    let samples = samples::all();
-    let sample = |name| samples.iter().find(|sample| sample.name == name).unwrap();
-    assert_eq!(verdict(7, EXAMPLE_DAY, &sample("face").container), CONFORMS);
-    assert_eq!(verdict(7, EXAMPLE_DAY, &sample("face-broken").container), (26, 4, Some(0xBC)));
+    FACE.samples();
 }
 
 // ---------------------------------------------------------------------------------------------
@@ -121,7 +95,8 @@ fn every_value_of_a_field() {
             for value in 0..=255 {
                 let mut images = two();
                 *field(&mut images[which]) = value;
-                assert_eq!(number_of(&facial(&images)), expected(good.contains(&value)), "{} {}", which, value);
+                let number = FACE.number_of(&facial(&images));
+                assert_eq!(number, FACE.expected(good.contains(&value)), "{} {}", which, value);
             }
         }
     }
@@ -133,37 +108,22 @@ fn every_value_of_a_field() {
 fn every_byte() {
     let record = facial(&[Image::plain(2, 3), Image::plain(1, 0)]);
     let last = 14 + 51;
-    for (at, &original) in record.iter().enumerate() {
-        for byte in (0..=255).filter(|&byte| byte != original) {
-            let mut other = record.clone();
-            other[at] = byte;
-            let number = number_of(&other);
-            assert_eq!(number, judged_by_reading(&other), "{} {}", at, byte);
-            let free = match at.checked_sub(last) {
-                None if at < 14 => false,
-                None => continue,
-                Some(6..=27 | 30..=33 | 36..=39) => true,
-                Some(29) => byte < 2,
-                Some(35) => byte == 6,
-                Some(_) => false,
-            };
-            assert_eq!(number, expected(free), "{} {}", at, byte);
-        }
-    }
+    FACE.every_byte(&record, |at, byte, number| {
+        let free = match at.checked_sub(last) {
+            None if at < 14 => false,
+            None => return,
+            Some(6..=27 | 30..=33 | 36..=39) => true,
+            Some(29) => byte < 2,
+            Some(35) => byte == 6,
+            Some(_) => false,
+        };
+        assert_eq!(number, FACE.expected(free), "{} {}", at, byte);
+    });
 }
 
-/// The record's length is that of the data.
 #[test]
 fn every_record_length() {
-    for record in [least(), facial(&two())] {
-        let right = record.len() as u32;
-        let in_so_many_bits = [8, 16, 24, 31].map(|bit| right + (1 << bit));
-        for length in (0..400).chain(in_so_many_bits).chain([u32::MAX]) {
-            let mut other = record.clone();
-            other[8..12].copy_from_slice(&length.to_be_bytes());
-            assert_eq!(number_of(&other), expected(length == right), "{}", length);
-        }
-    }
+    FACE.every_length([least(), facial(&two())]);
 }
 
 /// There is an image at least, and there are as many as are said.
@@ -174,7 +134,7 @@ fn every_number_of_images() {
             let blocks: Vec<u8> = (0..images).flat_map(|pixels| Image::plain(points, pixels).block()).collect();
             for said in (0..300).chain([0x0100 + images as u16, 0x8000, u16::MAX]) {
                 let good = images > 0 && usize::from(said) == images;
-                assert_eq!(number_of(&around(said, &blocks)), expected(good), "{} {}", images, said);
+                assert_eq!(FACE.number_of(&around(said, &blocks)), FACE.expected(good), "{} {}", images, said);
             }
         }
     }
@@ -191,10 +151,10 @@ fn every_block_length() {
             let in_so_many_bits = [16, 24, 31].map(|bit| right + (1 << bit));
             for length in (0..=right + 40).chain(in_so_many_bits).chain([u32::MAX]) {
                 let block = image.block_saying(length, points as u16);
-                let number = expected(length == right);
-                assert_eq!(number_of(&around(1, &block)), number, "{} {} {}", points, pixels, length);
-                assert_eq!(number_of(&around(2, &[&other, &block[..]].concat())), number);
-                assert_eq!(number_of(&around(2, &[&block, &other[..]].concat())), number);
+                let number = FACE.expected(length == right);
+                assert_eq!(FACE.number_of(&around(1, &block)), number, "{} {} {}", points, pixels, length);
+                assert_eq!(FACE.number_of(&around(2, &[&other, &block[..]].concat())), number);
+                assert_eq!(FACE.number_of(&around(2, &[&block, &other[..]].concat())), number);
             }
         }
     }
@@ -208,29 +168,17 @@ fn room_of_feature_points() {
         for points in (0..20).chain([0x1FFF, 0x2000, 0x2001, 0x2005, 0x8000, 0xE000, u16::MAX]) {
             let block = block_for_any_points(length, points);
             let good = 32 + 8 * usize::from(points) <= length;
-            assert_eq!(number_of(&around(1, &block)), expected(good), "{} {}", length, points);
+            assert_eq!(FACE.number_of(&around(1, &block)), FACE.expected(good), "{} {}", length, points);
             // what stands behind the block is none of it
             let followed = [&block[..], &Image { free: [1; 14], ..Image::plain(0, 0) }.block()].concat();
-            assert_eq!(number_of(&around(2, &followed)), expected(good), "{} {}", length, points);
+            assert_eq!(FACE.number_of(&around(2, &followed)), FACE.expected(good), "{} {}", length, points);
         }
     }
 }
 
-/// A record that is cut off, or that has bytes behind its last block, is none, whatever it says of its length.
 #[test]
 fn every_end() {
-    for record in [least(), facial(&two())] {
-        for length in (1..record.len() + 70).filter(|&length| length != record.len()) {
-            let mut other = record.clone();
-            other.resize(length, 0);
-            assert_eq!(number_of(&other), 26, "{}", length);
-            if length >= 14 {
-                assert_eq!(number_of(&around(other[13].into(), &other[14..])), 26, "{}", length);
-            }
-        }
-    }
-    // no data at all are the header's fault
-    assert_eq!(number_of(&[]), 21);
+    FACE.every_end([least(), facial(&two())], 14);
 }
 
 /// Pixels are whatever they are, and so is all else that is free.
@@ -241,158 +189,74 @@ fn free_bytes() {
         let image =
             Image { free: [byte; 14], points: vec![[byte; 8]; 3], pixels: vec![byte; 20], ..Image::plain(0, 0) };
         let image = Image { width: two, height: two, device_type: two, quality: two, ..image };
-        assert_eq!(number_of(&facial(&[image.clone(), image])), 0, "{}", byte);
+        assert_eq!(FACE.number_of(&facial(&[image.clone(), image])), 0, "{}", byte);
     }
 }
 
-/// The header's fields up to the FASC-N come first, then that, then the reserved bytes, and the record comes last.
 #[test]
 fn order() {
-    // the offset of a field's byte, what that is changed to, and the number of the field
-    let fields: [(usize, u8, u64); 9] = [
-        (0, 2, 21),
-        (5, 0, 21),
-        (7, 2, 21),
-        (8, 1, 21),
-        (19, 0, 21),
-        (40, 0xFF, 21),
-        (41, 0x1F, 21),
-        (83, 0xEA, 17),
-        (87, 1, 21),
-    ];
-    for (at, byte, number) in fields {
-        for record in [least(), b"RUBBISH".to_vec()] {
-            let mut card = face(100, &record, 1);
-            card.rows[0].as_mut().unwrap()[at] = byte;
-            assert_eq!(verdict(7, EXAMPLE_DAY, &card.container()).0, number, "{}", at);
-        }
-    }
-    let mut card = face(100, b"RUBBISH", 1);
-    let value = card.rows[0].as_mut().unwrap();
-    value[59..84].copy_from_slice(&wrong_fascn());
-    value[87] = 1;
-    assert_eq!(verdict(7, EXAMPLE_DAY, &card.container()), (17, 2, Some(0xBC)));
+    FACE.order(&[(7, 2), (8, 1), (40, 0xFF)]);
 }
 
 // ---------------------------------------------------------------------------------------------
 // Containers and sheets
 
-/// What each call answers on a FACE with this record.
-fn each_call(record: &[u8], number: u64) {
-    let card = face(100, record, 1);
-    let (place, page) = common::each_call(&card, 0, 0xBC, 0, number);
-    let lines = match number {
-        0 => format!("0 0 --\nELEMENTS 2\nBC {}\nFE 0\nOPEN 2\nagency 1234\nsystem 0001\n", 89 + record.len()),
-        _ => format!("{} {} BC\nELEMENTS 0\nOPEN 0\n", number, place),
-    };
-    assert_eq!(page, format!("CARD 4\nkind FACE\nbytes {}\ntoday 20260301\nverdict {}", card.container().len(), lines));
-}
-
 #[test]
 fn edges() {
-    let mut counts = [0; 27];
-    for record in faces::edges() {
-        let number = judged_by_reading(&record);
-        each_call(&record, number);
-        counts[number as usize] += 1;
-    }
-    assert!(counts[0] > 100 && counts[26] > 2_000, "{:?}", counts);
+    FACE.each_call_on(faces::edges(), [100, 2_000]);
 }
 
-/// Of the calls at an edge those with several faults answer the first, and the largest are refused for their size or for the last
-/// image.
+/// The largest are refused for their size or for the last image.
 #[test]
 fn calls_at_an_edge() {
-    let mut seen = BTreeSet::new();
-    for record in faces::records() {
-        let answer = record.answer();
-        seen.insert((record.call, answer.number, answer.tag));
-        assert!(matches!(answer.number, 0 | 3 | 4 | 17 | 21 | 26));
-    }
-    for call in [Call::Check, Call::Write, Call::View] {
-        assert!(seen.contains(&(call, 0, None)) && seen.contains(&(call, 26, Some(0xBC))), "{:?}", call);
-    }
-    for number in [17, 21] {
-        assert!(seen.contains(&(Call::Check, number, Some(0xBC))), "{}", number);
-    }
-    assert!(seen.contains(&(Call::Check, 4, None)) && seen.contains(&(Call::Write, 4, None)));
-    assert!(seen.contains(&(Call::Report, 0, None)));
+    FACE.calls_at_an_edge(faces::records(), |_, number| matches!(number, 0 | 3 | 4 | 17 | 21 | 26));
 }
 
 // ---------------------------------------------------------------------------------------------
 // What is made
 
 /// How many images a good record has, and how many feature points and pixels the first has.
-fn counts(record: &[u8]) -> (usize, usize, usize) {
-    let two = |at: usize| usize::from(record[at]) * 256 + usize::from(record[at + 1]);
-    let points = two(18);
-    (two(12), points, two(16) - 32 - 8 * points)
+fn counts(record: &[u8]) -> Counts {
+    let points = two_bytes(record, 18);
+    (two_bytes(record, 12), points, two_bytes(record, 16) - 32 - 8 * points)
 }
 
 /// One image is made and several, each with no feature points and with some, without pixels and with some, and every good value of
-/// the fields. Whatever is replaced by another of the same length need not have as many images.
+/// the fields.
 #[test]
 fn made_records() {
-    let mut rng = Rng::new(41);
-    let (mut shapes, mut types, mut others) = (BTreeSet::new(), BTreeSet::new(), 0);
-    for _ in 0..ROUNDS {
-        let card = conforming(&mut rng, 7);
-        let record = record_in(&card);
-        assert_eq!((judged_by_reading(record), number_of(record)), (0, 0));
-        let (images, points, pixels) = counts(record);
+    let (mut shapes, mut types) = (BTreeSet::new(), BTreeSet::new());
+    FACE.made_records(41, counts, |record, (images, points, pixels)| {
         shapes.insert((images.min(3), points.min(3), pixels.min(2)));
         types.insert((record[34 + 8 * points + 1], record[34 + 8 * points + 7]));
-        let twin = personal_twin(&mut rng, &card);
-        assert_eq!((number_of(record_in(&twin)), record_in(&twin).len()), (0, record.len()));
-        others += usize::from(counts(record_in(&twin)).0 != images);
-    }
+    });
     assert_eq!((shapes.len(), types.len()), (3 * 4 * 3, 4), "{:?}", shapes);
-    assert!(others > ROUNDS / 10, "{}", others);
 }
 
 /// Records are made of every length from the least on, and so are values of BC.
 #[test]
 fn sizes() {
     let mut rng = Rng::new(42);
-    for length in (LEAST_RECORD..700).chain([5_000, 32_600, 60_000]) {
-        for _ in 0..10 {
-            let record = faces::record_of(&mut rng, length);
-            assert_eq!((record.len(), judged_by_reading(&record)), (length, 0), "{}", length);
-        }
-    }
-    let rule = second::card::kind_of(7).unwrap().rows[0].rule;
-    for length in 0..400 {
-        let value = value_of(&mut rng, rule, length);
-        assert_eq!(value.map(|value| value.len()), Some(length).filter(|&length| length >= 135), "{}", length);
-    }
+    FACE.records_of(&mut rng, (LEAST_RECORD..700).chain([5_000, 32_600, 60_000]), faces::record_of);
+    FACE.values_of(&mut rng, 0..400, 135);
 }
 
-/// Both readers agree on damaged ones.
+/// Of the damaged ones some have no whole header.
 #[test]
 fn damaged_records() {
-    let mut rng = Rng::new(43);
-    let mut counts = [0; 27];
     let mut lengths = BTreeSet::new();
-    for _ in 0..ROUNDS {
-        let record = faces::damaged(&mut rng);
-        let number = number_of(&record);
-        assert_eq!(number, judged_by_reading(&record), "{:02X?}", record);
-        counts[number as usize] += 1;
+    let [good, broken] = FACE.damaged_records(43, ROUNDS, faces::damaged, |record| {
         lengths.insert(record.len());
-    }
-    assert!(counts[0] > 1_000 && counts[26] > 10_000, "{} {}", counts[0], counts[26]);
+    });
+    assert!(good > 1_000 && broken > 10_000, "{} {}", good, broken);
     assert!((1..14).all(|length| lengths.contains(&length)));
 }
 
 /// The sorts of damage, told by what a reader finds at its end: every rule of the record is broken alone.
 #[test]
 fn every_damage_is_made() {
-    let mut rng = Rng::new(44);
     let mut found = BTreeSet::new();
-    for _ in 0..ROUNDS {
-        let record = faces::damaged(&mut rng);
-        found.extend(first_fault(&record));
-    }
+    FACE.damaged_records(44, ROUNDS, faces::damaged, |record| found.extend(first_fault(record)));
     for sort in OF_A_HEADER.iter().chain(&OF_AN_IMAGE).chain(&["bytes behind"]) {
         assert!(found.contains(&(sort, 0)), "{}", sort);
     }
@@ -451,22 +315,7 @@ fn first_fault(record: &[u8]) -> Option<(&'static str, usize)> {
     (at < record.len()).then_some(("bytes behind", 0))
 }
 
-/// A FACE is refused for its record by every call, and reported so.
 #[test]
 fn calls_on_records_are_made() {
-    let mut inputs = Inputs::made(45);
-    let mut seen = BTreeSet::new();
-    for record in (0..80_000).map(|_| inputs.record()).filter(|record| record.kind == 7) {
-        let answer = record.answer();
-        let reported = String::from_utf8_lossy(&answer.room).contains("\nverdict 26 ");
-        seen.insert((
-            record.call,
-            if record.call == Call::Report && reported { 26 } else { answer.number },
-            answer.short,
-        ));
-    }
-    for call in [Call::Check, Call::View, Call::Write, Call::Report] {
-        assert!(seen.contains(&(call, 0, 0)) && seen.contains(&(call, 26, 0)), "{:?}", call);
-    }
-    assert!(seen.contains(&(Call::Check, 0, 3)));
+    FACE.calls_are_made(45);
 }

@@ -1,36 +1,29 @@
 //! The iris container and its record, of request 2026-06.
 
-use second::batch::Call;
-use second::card::{kind_of, CONFORMS};
-use second::generate::{conforming, personal_twin, value_of, Inputs, Rng, EXAMPLE_DAY};
+use second::card::CONFORMS;
+use second::generate::{Rng, EXAMPLE_DAY};
 use second::irises::{
     self, around, iris_record, least, pair_of, with_flag_and_eyes, with_image, Representation, BYTE_FIELDS,
     LEAST_RECORD, NUMBER_FIELDS,
 };
-use second::records::{saying_length, with_bytes};
-use second::samples::{self, eye, iris, wrong_fascn, EYE};
-use std::collections::{BTreeMap, BTreeSet};
+use second::records::with_bytes;
+use second::samples::{eye, iris, EYE};
+use std::collections::BTreeSet;
 
 mod common;
-use common::{record_in, verdict, Fields};
-
-const ROUNDS: usize = 20_000;
+use common::{picture_of, two_bytes, verdict, Biometric, Counts, Fields, ROUNDS};
 
 // ---------------------------------------------------------------------------------------------
 // What is a record
 
-fn number_of(record: &[u8]) -> u64 {
-    verdict(12, EXAMPLE_DAY, &iris(100, record, 1).container()).0
-}
-
-/// 27, or 0 for a record.
-fn expected(good: bool) -> u64 {
-    if good {
-        0
-    } else {
-        27
-    }
-}
+const IRIS: Biometric = Biometric {
+    kind: 12,
+    name: "IRIS",
+    broken: 27,
+    card: iris,
+    least,
+    is_record: |record| first_fault(record).is_none(),
+};
 
 /// The next number of so many bytes, if it is good.
 fn next(fields: &mut Fields, bytes: u64, name: &'static str, good: impl Fn(u64) -> bool) -> Result<u64, &'static str> {
@@ -143,11 +136,6 @@ fn first_fault(record: &[u8]) -> Option<(&'static str, u64)> {
     (!fields.0.is_empty()).then_some(("bytes behind", 0))
 }
 
-/// The number by that reader.
-fn judged_by_reading(record: &[u8]) -> u64 {
-    expected(first_fault(record).is_none())
-}
-
 /// A record written out: 16 bytes of header, and for each representation 19, 5 for each quality block, 33, and the image.
 #[test]
 fn layout() {
@@ -158,29 +146,22 @@ fn layout() {
             .concat();
     let one = [&header(68, 1)[..], &[0, 0, 0, 52], &capture, &[0, 0, 1], &information, &[0; 4]].concat();
     assert_eq!(least(), one);
-    assert_eq!((least().len(), number_of(&one)), (LEAST_RECORD, 0));
+    assert_eq!((least().len(), IRIS.number_of(&one)), (LEAST_RECORD, 0));
 
     let first = [&[0, 0, 0, 62][..], &capture, &[2], &[0xDD; 10], &[0, 1], &information, &[0; 4]].concat();
     let second = [&[0, 0, 0, 55][..], &capture, &[0, 0, 2], &information, &[0, 0, 0, 3], &[0xFF; 3]].concat();
     let two = [header(133, 2), first, second].concat();
     assert_eq!(iris_record(&[Representation::plain(1, 2, 0), Representation::plain(2, 0, 3)]), two);
-    assert_eq!(number_of(&two), 0);
+    assert_eq!(IRIS.number_of(&two), 0);
 }
 
 /// The sample with pictures: a JPEG 2000 file of the width and the height that the record says, in grey of eight bits.
 #[test]
 fn eyes_are_true() {
-    assert_eq!(EYE[..12], [0, 0, 0, 12, b'j', b'P', b' ', b' ', 0x0D, 0x0A, 0x87, 0x0A]);
-    let at = EYE.windows(4).position(|four| four == b"ihdr").unwrap() + 4;
     let eye = eye(1);
-    let size = [u32::from(eye.height).to_be_bytes(), u32::from(eye.width).to_be_bytes()].concat();
-    assert_eq!(EYE[at..at + 11], [&size[..], &[0, 1, eye.depth - 1]].concat());
+    assert_eq!(picture_of(EYE, eye.width, eye.height)[..3], [0, 1, eye.depth - 1]);
     assert_eq!(eye.image, EYE);
-
-    let samples = samples::all();
-    let sample = |name| samples.iter().find(|sample| sample.name == name).unwrap();
-    assert_eq!(verdict(12, EXAMPLE_DAY, &sample("iris").container), CONFORMS);
-    assert_eq!(verdict(12, EXAMPLE_DAY, &sample("iris-broken").container), (27, 4, Some(0xBC)));
+    IRIS.samples();
 }
 
 // ---------------------------------------------------------------------------------------------
@@ -195,7 +176,7 @@ fn number_with(change: impl Fn(&mut Representation)) -> u64 {
     let with = |which: usize| {
         let mut both = two();
         change(&mut both[which]);
-        number_of(&iris_record(&both))
+        IRIS.number_of(&iris_record(&both))
     };
     assert_eq!(with(0), with(1));
     with(0)
@@ -218,7 +199,7 @@ fn every_value_of_a_byte() {
     ];
     for (i, (field, good)) in BYTE_FIELDS.into_iter().zip(good).enumerate() {
         for value in 0..=255 {
-            assert_eq!(number_with(|one| *field(one) = value), expected(good.contains(&value)), "{} {}", i, value);
+            assert_eq!(number_with(|one| *field(one) = value), IRIS.expected(good.contains(&value)), "{} {}", i, value);
         }
     }
 }
@@ -241,7 +222,7 @@ fn every_value_of_a_number() {
     ];
     for (i, (field, good)) in NUMBER_FIELDS.into_iter().zip(good).enumerate().filter(|(i, _)| *i != 2) {
         for value in (0..2_100).chain(9_990..10_010).chain([0x8000, u16::MAX]) {
-            assert_eq!(number_with(|one| *field(one) = value), expected(good(value)), "{} {}", i, value);
+            assert_eq!(number_with(|one| *field(one) = value), IRIS.expected(good(value)), "{} {}", i, value);
         }
     }
 }
@@ -251,11 +232,11 @@ fn every_value_of_a_number() {
 fn every_size() {
     for width in (0..600).chain([u16::MAX - 1, u16::MAX]) {
         let good = (288..=448).contains(&width);
-        assert_eq!(number_with(|one| *one = one.clone().sized(width, 216)), expected(good), "{}", width);
+        assert_eq!(number_with(|one| *one = one.clone().sized(width, 216)), IRIS.expected(good), "{}", width);
     }
     for height in (0..600).chain([u16::MAX - 1, u16::MAX]) {
         let good = (216..=336).contains(&height);
-        assert_eq!(number_with(|one| *one = one.clone().sized(288, height)), expected(good), "{}", height);
+        assert_eq!(number_with(|one| *one = one.clone().sized(288, height)), IRIS.expected(good), "{}", height);
     }
     for (width, height, centre) in
         [(288, 216, [144, 145, 108, 109]), (289, 217, [145, 145, 109, 109]), (448, 335, [224, 225, 168, 168])]
@@ -267,7 +248,7 @@ fn every_size() {
             other.iter_mut().zip(steps).for_each(|(number, step)| *number += step - 1);
             let number =
                 number_with(|one| (one.width, one.height, one.centre) = (width, height, other.map(|n| n as u16)));
-            assert_eq!(number, expected(other == centre), "{:?}", other);
+            assert_eq!(number, IRIS.expected(other == centre), "{:?}", other);
         }
     }
 }
@@ -282,7 +263,7 @@ fn every_day() {
                     && (1..=12).contains(&month)
                     && (1..=last_day(year, month)).contains(&day);
                 let number = number_with(|one| (one.year, one.month, one.day) = (year as u16, month as u8, day as u8));
-                assert_eq!(number, expected(good), "{} {} {}", year, month, day);
+                assert_eq!(number, IRIS.expected(good), "{} {} {}", year, month, day);
             }
         }
     }
@@ -293,21 +274,16 @@ fn every_day() {
     );
 }
 
-/// Any other value of any byte: both readers agree, and what is free stays good.
+/// What is free stays good.
 #[test]
 fn every_byte() {
     let record = iris_record(&two());
     // the second representation behind the first: device, quality block, range and roll, image
     let second = 16 + 65;
     let free = [second + 13..second + 18, second + 19..second + 24, second + 35..second + 41, second + 57..second + 59];
-    for (at, &original) in record.iter().enumerate() {
-        for byte in (0..=255).filter(|&byte| byte != original) {
-            let other = with_bytes(record.clone(), at, &[byte]);
-            let number = number_of(&other);
-            assert_eq!(number, judged_by_reading(&other), "{} {}", at, byte);
-            assert!(number == 0 || !free.iter().any(|range| range.contains(&at)), "{} {}", at, byte);
-        }
-    }
+    IRIS.every_byte(&record, |at, byte, number| {
+        assert!(number == 0 || !free.iter().any(|range| range.contains(&at)), "{} {}", at, byte);
+    });
 }
 
 /// Representations are one or two, as many as are said, with the numbers 1, then 2; eyes are one or two, and the flag is 00.
@@ -317,39 +293,23 @@ fn every_header() {
         let all: Vec<u8> = numbers.iter().flat_map(|&number| Representation::plain(number, 0, 1).bytes()).collect();
         for said in (0..5).chain([0x0100, 0x0101, 0x0102, 0x8001, u16::MAX]) {
             let good = usize::from(said) == numbers.len() && (numbers == [1] || numbers == [1, 2]);
-            assert_eq!(number_of(&around(said, &all)), expected(good), "{:?} {}", numbers, said);
+            assert_eq!(IRIS.number_of(&around(said, &all)), IRIS.expected(good), "{:?} {}", numbers, said);
         }
     }
     for record in [least(), iris_record(&two())] {
         for value in 0..=255 {
             let eyes = with_flag_and_eyes(record.clone(), 0, value);
-            assert_eq!(number_of(&eyes), expected(value == 1 || value == 2), "{}", value);
+            assert_eq!(IRIS.number_of(&eyes), IRIS.expected(value == 1 || value == 2), "{}", value);
             let flag = with_flag_and_eyes(record.clone(), value, 1);
-            assert_eq!(number_of(&flag), expected(value == 0), "{}", value);
+            assert_eq!(IRIS.number_of(&flag), IRIS.expected(value == 0), "{}", value);
         }
     }
 }
 
-/// The record's length is that of the data. A record that is cut off or has bytes behind its last representation is none, whatever
-/// it says of its length.
 #[test]
 fn every_length_and_end() {
-    for record in [least(), iris_record(&two())] {
-        let right = record.len() as u32;
-        for length in (0..400).chain([8, 16, 24, 31].map(|bit| right + (1 << bit))).chain([u32::MAX]) {
-            assert_eq!(number_of(&saying_length(record.clone(), length)), expected(length == right), "{}", length);
-        }
-        for length in (1..record.len() + 70).filter(|&length| length != record.len()) {
-            let mut other = record.clone();
-            other.resize(length, 0);
-            assert_eq!(number_of(&other), 27, "{}", length);
-            if length >= 16 {
-                assert_eq!(number_of(&saying_length(other, length as u32)), 27, "{}", length);
-            }
-        }
-    }
-    // no data at all are the header's fault
-    assert_eq!(number_of(&[]), 21);
+    IRIS.every_length([least(), iris_record(&two())]);
+    IRIS.every_end([least(), iris_record(&two())], 16);
 }
 
 /// The three numbers that follow from a representation: each other value of one, and of its length with one of the two.
@@ -362,20 +322,20 @@ fn every_length_of_a_part() {
                 let bytes = one.bytes_saying(length, blocks, image);
                 let good = (length, blocks, image) == (82, 2, 20);
                 assert_eq!(
-                    number_of(&around(2, &[&bytes, &other[..]].concat())),
-                    expected(good),
+                    IRIS.number_of(&around(2, &[&bytes, &other[..]].concat())),
+                    IRIS.expected(good),
                     "{} {} {}",
                     length,
                     blocks,
                     image
                 );
-                assert_eq!(number_of(&around(1, &bytes)), expected(good), "{} {} {}", length, blocks, image);
+                assert_eq!(IRIS.number_of(&around(1, &bytes)), IRIS.expected(good), "{} {} {}", length, blocks, image);
             }
         }
     }
     // a sum of 32 bits would be right
     for (length, image) in [(82, 20 + (1 << 31)), (51, u32::MAX - 10), (62, 0), (61, u32::MAX), (0, u32::MAX - 61)] {
-        assert_eq!(number_of(&around(1, &one.bytes_saying(length, 2, image))), 27, "{} {}", length, image);
+        assert_eq!(IRIS.number_of(&around(1, &one.bytes_saying(length, 2, image))), 27, "{} {}", length, image);
     }
 }
 
@@ -387,10 +347,10 @@ fn most_bytes() {
     for record in
         [one(3_071), one(3_072), pair((3_073, 0)), pair((6_144, 0)), pair((6_144, 3_012)), pair((6_144, 6_024))]
     {
-        each_call(&record, 0);
+        IRIS.each_call(&record, 0);
     }
     for record in [one(3_073), one(6_144), pair((6_145, 0)), pair((6_145, 3_012)), pair((6_145, 6_025))] {
-        each_call(&record, 27);
+        IRIS.each_call(&record, 27);
     }
 }
 
@@ -427,154 +387,74 @@ fn every_byte_of_the_header() {
 
 const HEADER: (u64, u64, Option<u16>) = (21, 3, Some(0xBC));
 
-/// The header's fields up to the FASC-N come first, then that, then the reserved bytes, and the record comes last.
 #[test]
 fn order() {
-    for record in [least(), b"RUBBISH".to_vec()] {
-        for (at, byte, number) in [
-            (0, 2, 21),
-            (5, 0, 21),
-            (9, 0x1B, 21),
-            (19, 0, 21),
-            (40, 0xFD, 21),
-            (41, 0x1F, 21),
-            (83, 0xEA, 17),
-            (87, 1, 21),
-        ] {
-            let mut card = iris(100, &record, 1);
-            card.rows[0].as_mut().unwrap()[at] = byte;
-            assert_eq!(verdict(12, EXAMPLE_DAY, &card.container()).0, number, "{}", at);
-        }
-    }
-    let mut card = iris(100, b"RUBBISH", 1);
-    let value = card.rows[0].as_mut().unwrap();
-    value[59..84].copy_from_slice(&wrong_fascn());
-    value[87] = 1;
-    assert_eq!(verdict(12, EXAMPLE_DAY, &card.container()), (17, 2, Some(0xBC)));
+    IRIS.order(&[(9, 0x1B), (40, 0xFD)]);
 }
 
 // ---------------------------------------------------------------------------------------------
 // Containers and sheets
 
-/// What each call answers on an IRIS with this record.
-fn each_call(record: &[u8], number: u64) {
-    let card = iris(100, record, 1);
-    let (place, page) = common::each_call(&card, 0, 0xBC, 0, number);
-    let lines = match number {
-        0 => format!("0 0 --\nELEMENTS 2\nBC {}\nFE 0\nOPEN 2\nagency 1234\nsystem 0001\n", 89 + record.len()),
-        _ => format!("{} {} BC\nELEMENTS 0\nOPEN 0\n", number, place),
-    };
-    assert_eq!(page, format!("CARD 4\nkind IRIS\nbytes {}\ntoday 20260301\nverdict {}", card.container().len(), lines));
-}
-
 #[test]
 fn edges() {
-    let mut counts = [0; 28];
-    for record in irises::edges() {
-        let number = judged_by_reading(&record);
-        each_call(&record, number);
-        counts[number as usize] += 1;
-    }
-    assert!(counts[0] > 500 && counts[27] > 2_000, "{:?}", counts);
+    IRIS.each_call_on(irises::edges(), [500, 2_000]);
 }
 
-/// Of the calls at an edge those with several faults answer the first, and the largest are refused for their size or for the last
-/// representation. Two are made of a FACE with another record.
+/// The largest are refused for their size or for the last representation. Two are made of a FACE with another record.
 #[test]
 fn calls_at_an_edge() {
-    let mut seen = BTreeSet::new();
-    for record in irises::records() {
-        let answer = record.answer();
-        seen.insert((record.call, answer.number, answer.tag));
-        assert!(matches!((record.kind, answer.number), (12, 0 | 3 | 4 | 17 | 21 | 27) | (6 | 7, 0 | 21) | (7, 26)));
-    }
-    for call in [Call::Check, Call::Write, Call::View] {
-        assert!(seen.contains(&(call, 0, None)) && seen.contains(&(call, 27, Some(0xBC))), "{:?}", call);
-    }
-    for number in [17, 21] {
-        assert!(seen.contains(&(Call::Check, number, Some(0xBC))), "{}", number);
-    }
-    assert!(seen.contains(&(Call::Check, 4, None)) && seen.contains(&(Call::Write, 4, None)));
-    assert!(seen.contains(&(Call::Report, 0, None)));
+    IRIS.calls_at_an_edge(irises::records(), |kind, number| {
+        matches!((kind, number), (12, 0 | 3 | 4 | 17 | 21 | 27) | (6 | 7, 0 | 21) | (7, 26))
+    });
 }
 
 // ---------------------------------------------------------------------------------------------
 // What is made
 
 /// How many representations a good record has, how many quality blocks the first has and how many bytes its image.
-fn counts(record: &[u8]) -> (usize, usize, usize) {
-    let two = |at: usize| usize::from(record[at]) * 256 + usize::from(record[at + 1]);
+fn counts(record: &[u8]) -> Counts {
     let blocks = usize::from(record[34]);
-    (two(12), blocks, two(18) - 52 - 5 * blocks)
-}
-
-fn report_of(container: &[u8]) -> Vec<u8> {
-    let mut room = vec![0; 512];
-    assert_eq!(second::report(12, EXAMPLE_DAY, container, &mut room).0, 0);
-    room
+    (two_bytes(record, 12), blocks, two_bytes(record, 18) - 52 - 5 * blocks)
 }
 
 /// One representation is made and two, each with no quality blocks and with some, without an image and with one, and records of the
-/// most bytes. One with other personal values need not have as many representations, and its report is the same.
+/// most bytes.
 #[test]
 fn made_records() {
-    let mut rng = Rng::new(61);
-    let (mut shapes, mut lengths, mut others) = (BTreeSet::new(), BTreeSet::new(), 0);
-    for _ in 0..ROUNDS {
-        let card = conforming(&mut rng, 12);
-        let record = record_in(&card);
-        assert_eq!((judged_by_reading(record), number_of(record)), (0, 0));
-        let (count, blocks, image) = counts(record);
+    let (mut shapes, mut lengths) = (BTreeSet::new(), BTreeSet::new());
+    IRIS.made_records(61, counts, |record, (count, blocks, image)| {
         shapes.insert((count, blocks.min(3), image.min(2)));
         lengths.insert(record.len());
-        let twin = personal_twin(&mut rng, &card);
-        assert_eq!((number_of(record_in(&twin)), record_in(&twin).len()), (0, record.len()));
-        assert_eq!(report_of(&twin.container()), report_of(&card.container()));
-        others += usize::from(counts(record_in(&twin)).0 != count);
-    }
+    });
     assert_eq!(shapes.len(), 2 * 4 * 3, "{:?}", shapes);
     assert!([3_071, 3_072, 6_143, 6_144].iter().all(|length| lengths.contains(length)));
-    assert!(others > ROUNDS / 10, "{}", others);
 }
 
 /// Records are made of every length that there is, and values of BC of every length from the least on.
 #[test]
 fn sizes() {
     let mut rng = Rng::new(62);
-    for length in (LEAST_RECORD..700).chain(3_060..3_090).chain(6_100..=6_144) {
-        for _ in 0..10 {
-            let record = irises::record_of(&mut rng, length);
-            assert_eq!((record.len(), judged_by_reading(&record)), (length, 0), "{}", length);
-        }
-    }
-    let rule = kind_of(12).unwrap().rows[0].rule;
-    for length in (0..400).chain([3_000, 7_000, 32_000, 40_000]) {
-        let value = value_of(&mut rng, rule, length);
-        assert_eq!(value.map(|value| value.len()), Some(length).filter(|&length| length >= 157), "{}", length);
-    }
+    IRIS.records_of(&mut rng, (LEAST_RECORD..700).chain(3_060..3_090).chain(6_100..=6_144), irises::record_of);
+    IRIS.values_of(&mut rng, (0..400).chain([3_000, 7_000, 32_000, 40_000]), 157);
 }
 
-/// Both readers agree on damaged ones, and every rule is broken first by some of them: those of a representation in one alone and in
-/// each of two. Of those that stay good some are at each edge.
+/// Every rule is broken first by some damaged ones: those of a representation in one alone and in each of two. Of those that stay
+/// good some are at each edge.
 #[test]
 fn damaged_records() {
-    let mut rng = Rng::new(63);
-    let mut found: BTreeMap<_, usize> = BTreeMap::new();
-    let mut edges = BTreeSet::new();
-    for _ in 0..5 * ROUNDS {
-        let record = irises::damaged(&mut rng);
-        let fault = first_fault(&record);
-        assert_eq!(number_of(&record), expected(fault.is_none()), "{:02X?}", record);
+    let (mut found, mut edges) = (BTreeSet::new(), BTreeSet::new());
+    let [good, _] = IRIS.damaged_records(63, 5 * ROUNDS, irises::damaged, |record| {
+        let fault = first_fault(record);
         let count = record.get(13).filter(|_| fault.map_or(true, |(_, at)| at > 0)).copied();
-        *found.entry((fault, count)).or_default() += 1;
+        found.insert((fault, count));
         if fault.is_none() {
             let at = 35 + 5 * usize::from(record[34]);
-            let two = |at: usize| u16::from_be_bytes([record[at], record[at + 1]]);
+            let two = |at| two_bytes(record, at);
             edges.extend([("year", two(20)), ("width", two(at + 6)), ("height", two(at + 8))]);
             edges.extend([("lowest", two(at + 25)), ("highest", two(at + 27)), ("milliseconds", two(27))]);
         }
-    }
-    let seen = |fault, at, count| found.contains_key(&(Some((fault, at)), count));
+    });
+    let seen = |fault, at, count| found.contains(&(Some((fault, at)), count));
     for fault in OF_A_HEADER.into_iter().chain(["cut short", "bytes behind"]) {
         assert!(seen(fault, 0, None), "{}", fault);
     }
@@ -587,23 +467,10 @@ fn damaged_records() {
     for edge in [("lowest", 160), ("highest", 280), ("milliseconds", 0), ("milliseconds", 999)] {
         assert!(edges.contains(&edge), "{:?}", edge);
     }
-    let good: usize = found.iter().filter(|((fault, _), _)| fault.is_none()).map(|(_, count)| count).sum();
     assert!((ROUNDS / 4..3 * ROUNDS).contains(&good), "{}", good);
 }
 
-/// An IRIS is refused for its record by every call, and reported so.
 #[test]
 fn calls_on_records_are_made() {
-    let mut inputs = Inputs::made(65);
-    let mut seen = BTreeSet::new();
-    for record in (0..80_000).map(|_| inputs.record()).filter(|record| record.kind == 12) {
-        let answer = record.answer();
-        let reported = String::from_utf8_lossy(&answer.room).contains("\nverdict 27 ");
-        let number = if record.call == Call::Report && reported { 27 } else { answer.number };
-        seen.insert((record.call, number, answer.short));
-    }
-    for call in [Call::Check, Call::View, Call::Write, Call::Report] {
-        assert!(seen.contains(&(call, 0, 0)) && seen.contains(&(call, 27, 0)), "{:?}", call);
-    }
-    assert!(seen.contains(&(Call::Check, 0, 3)));
+    IRIS.calls_are_made(65);
 }

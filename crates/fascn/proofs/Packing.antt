@@ -1,13 +1,14 @@
 -- Forty characters of five bits are 25 bytes: written group by group or all at once, and read back. Assumes nothing.
 use mathlib.Core.Path.{_≡_, refl, ap, _∙_}
 use mathlib.Core.List.{List, map}
-use Prim.Native.Nat.{ℕ, _^_, _≤_, _<_}
+use Prim.Native.Nat.{ℕ, _-_, _^_, _≤_, _<_}
 use native.Mathlib.Omega.{arith}
 use lib.Dec.{lit<}
-use lib.ListN.{length}
+use lib.ListN.{length, take, drop}
 use lib.Seq.{take-all}
 use Rattle.laws.specs.Digits.{digits, value, groups}
 use Rattle.laws.specs.Bytes.{Below, Bytes}
+use Rattle.laws.proofs.Turns.{rest}
 use Rattle.laws.proofs.Bases.{value-lt, value-digits, digits-read, below-digits, groups-are}
 use Rattle.fascn.specs.Fascn.{values, checked, characters, encoded}
 use Rattle.fascn.specs.Reading.{valueOf, valuesOf}
@@ -38,11 +39,15 @@ encoded-groups n =
 
 -- ---- reading, five bytes a group
 
-pub values-groups : (s : List ℕ) → Bytes s → length s ≡ 25 → map valueOf (groups 256 5 32 8 5 0 s) ≡ valuesOf s
+values-groups : (s : List ℕ) → Bytes s → length s ≡ 25 → map valueOf (groups 256 5 32 8 5 0 s) ≡ valuesOf s
 unfolding valuesOf
 values-groups s b h =
     let g : length s ≤ 25 = omega arith in
     ap (map valueOf) (groups-are 256 32 5 8 (lit< tt) (lit< tt) refl 5 0 s b (omega arith) ∙ ap (λ (l : List ℕ). digits 32 40 (value 256 l)) (take-all 25 s g))
+
+-- where the code has unpacked all of some bytes and taken the values of what it got
+pub values-read : (s : List ℕ) → Bytes s → length s ≡ 25 → {u v : List ℕ} → u ≡ groups 256 5 32 8 5 0 (take (length s - 0) (drop 0 s)) → v ≡ map valueOf u → v ≡ valuesOf s
+values-read s b l e f = f ∙ ap (map valueOf) (rw (rest s 0) at e) ∙ values-groups s b l
 
 -- ---- there and back
 

@@ -1,15 +1,13 @@
 -- `fascn::decode` meets its contract: a law for each way out. Assumes nothing.
 use mathlib.Core.Path.{_≡_, sym, ap, _∙_}
-use mathlib.Core.List.{map}
 use native.Mathlib.Omega.{arith}
 use denote.Ref.{now}
 use borrow.Author.Needs.{needs}
 use borrow.Author.Tests.{not-true, not-false}
 use Rattle.laws.proofs.Bases.{below-of}
-use Rattle.laws.proofs.Turns.{rest}
-use Rattle.fascn.specs.Reading.{valueOf, valuesOf, framed, fields}
+use Rattle.fascn.specs.Reading.{valuesOf, framed, fields}
 use Rattle.fascn.specs.Calls.{success}
-use Rattle.fascn.proofs.Packing.{values-groups}
+use Rattle.fascn.proofs.Packing.{values-read}
 use Rattle.fascn.proofs.Codec.{other-length, not-framed, well-framed}
 use Rattle.fascn.proofs.decode.Statement.{statement}
 use Rattle.fascn.proofs.decode.Tie as tie
@@ -18,8 +16,7 @@ use Rattle.fascn.proofs.decode.Tie as tie
 read : (c : tie.After-values-of) → c .values-of .result ≡ valuesOf (now (c .before .before .before .before .before .args .bytes))
 read c =
     let s = now (c .before .before .before .before .before .args .bytes) in
-    c .values-of .ensures ∙ ap (map valueOf) (rw (rest s 0) at (c .before .unpack .ensures))
-    ∙ values-groups s (below-of 256 s (λ k. c .before .before .before .before .shared-slice-known .given k .fits)) (omega arith)
+    values-read s (below-of 256 s (λ k. c .before .before .before .before .shared-slice-known .given k .fits)) (omega arith) (c .before .unpack .ensures) (c .values-of .ensures)
 
 judged : (c : tie.After-is-framed) → c .is-framed .result ≡ framed (valuesOf (now (c .before .before .before .before .before .before .args .bytes)))
 judged c = c .is-framed .ensures ∙ ap framed (read (c .before))
