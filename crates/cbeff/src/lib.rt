@@ -24,8 +24,8 @@ pub enum Body {
     Iris,
 }
 
-// What differs by format: its owner, its number, the type, the top three bits of the data type, whether a quality of -1 is known, what
-// the data part is, and the fault of one that is no such record.
+// What differs by format: its owner, its number, the type, the top three bits of the data type, whether a quality of -1 is
+// known, what the data part is, and the fault of one that is no such record.
 pub struct Biometric {
     pub owner: u64,
     pub format: u64,
