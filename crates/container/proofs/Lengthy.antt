@@ -29,15 +29,15 @@ module _ (c : List ℕ) (at least most : ℕ) (empty : Bool) (rule : ValueRule) 
   unfolding element valueAt
   no-length f = rw (none-read at (drop at c) f)
 
-  module _ {n next : ℕ} (b : Bytes c) (f : Is n next ≡ lengthAt at (drop at c)) where
+  module _ {n next : ℕ} (f : Is n next ≡ lengthAt at (drop at c)) where
     spelt : (w : ℕ) × (readLength (drop at c) ≡ some (record { number = n; width = w })) × (next ≡ at + w)
     spelt = some-read at (drop at c) f
 
     -- an offset past the end reads no length
     pub inside : next ≤ length c
     inside =
-        let r = spelling-inside (drop at c) (below-drop 256 at c b) (record { number = n; width = spelt .0 }) (spelt .1) in
-        omega (arith, r .0, r .1, spelt .2, length-drop at c)
+        let r = spelling-inside (drop at c) (record { number = n; width = spelt .0 }) (spelt .1) in
+        omega (arith, r .0, r .2, spelt .2, length-drop at c)
 
     is : element (lengthsOf least most empty) rule today (drop at c) ≡ within (lengthsOf least most empty) rule today (record { number = n; width = spelt .0 }) (drop next c)
     unfolding element

@@ -13,3 +13,4 @@ pub mod InOrder
 pub mod Named
 pub mod Tagged
 pub mod Lying
+pub mod Sizes

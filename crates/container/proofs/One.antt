@@ -7,14 +7,14 @@ use mathlib.Core.Option.{Option, none, some}
 use mathlib.Core.List.{List, _++_}
 use native.Mathlib.Omega.{arith}
 use native.Mathlib.Decide.{decLt}
-use lib.ListN.{length, take, drop, length-append, take-append-drop}
+use lib.ListN.{length, take, drop, length-append, length-drop, take-append-drop}
 use lib.Seq.{length-take-le, take-append-seam, drop-append-seam, drop-drop}
 use lib.Dec.{leb, eqb}
 use borrow.Author.Tests.{lt-ltb, le-ltb, le-leb, leb-true, eq-eqb, eqb-true}
 use Rattle.laws.specs.Bytes.{Bytes}
 use Rattle.laws.proofs.Cases.{which, and-true, and-is, either, or-left, or-right}
 use Rattle.lengths.specs.Length.{Spells, readLength, Spelt}
-use Rattle.lengths.proofs.Spellings.{exact, reads}
+use Rattle.lengths.proofs.Spellings.{exact, reads, inside}
 use Rattle.kinds.specs.Tables.{Entry, Lengths, Permitted, permitted}
 use Rattle.kinds.specs.declared.ValueRule.{ValueRule}
 use Rattle.rules.specs.Rules.{ruleOf}
@@ -68,32 +68,52 @@ module _ (l : Lengths) (rule : ValueRule) (today : ℕ) where
     pub width : w ≡ length form
     pub bytes : s ≡ form ++ (v ++ drop (w + length v) s)
 
-  -- what is read was written
-  pub element-is : (s : List ℕ) → Bytes s → (w : ℕ) (v : List ℕ) → element l rule today s ≡ whole w v → Reads s w v
+  -- what is read of an element by the tests: a length, and a value that has it and that its row takes
+  record Read (s : List ℕ) (w : ℕ) (v : List ℕ) : Type 0 where
+    number : ℕ
+    read : readLength s ≡ some (record { number = number; width = w })
+    fits : number ≤ length (drop w s)
+    value : take number (drop w s) ≡ v
+    good : Good v
+
+  element-read : (s : List ℕ) (w : ℕ) (v : List ℕ) → element l rule today s ≡ whole w v → Read s w v
   unfolding element
-  element-is s b w v e = go (readLength s) refl
+  element-read s w v e = go (readLength s) refl
     where
-      go : (o : Option Spelt) → readLength s ≡ o → Reads s w v
+      go : (o : Option Spelt) → readLength s ≡ o → Read s w v
       go none f = absurd (no-whole (rw f at e))
       go (some m) f =
           let body = drop (m .width) s in
-          let e′ : within l rule today m (drop (m .width) s) ≡ whole w v = rw f at e in
-          let x = exact s b (m .number) (m .width) .0 f in
+          let e′ : within l rule today m body ≡ whole w v = rw f at e in
           elim (decLt (length body) (m .number)) [
             | yes h ↦ absurd (no-whole (rw (lt-ltb _ _ h) at e′))
             | no h ↦
                 let k : m .number ≤ length body = omega arith in
                 let j = sized-is (m .width) w (take (m .number) body) v (rw (le-ltb _ _ k) at e′) in
-                let q : m .number ≡ length v = sym (length-take-le (m .number) body k) ∙ ap length (j .0) in
-                let r : drop (m .number) body ≡ drop (w + length v) s = drop-drop (m .number) (m .width) s ∙ rw (j .1, q) in
-                record {
-                  form = take (m .width) s;
-                  good = rw (← j .0) (j .2);
-                  spelt = rw (← q) (x .1);
-                  width = sym (j .1) ∙ sym (length-take-le (m .width) s (x .0));
-                  bytes = sym (take-append-drop (m .width) s) ∙ ap (λ (y : List ℕ). take (m .width) s ++ y) (sym (take-append-drop (m .number) body) ∙ rw (j .0, r));
-                }
+                record { number = m .number; read = rw (← j .1) f; fits = rw (← j .1) k; value = rw (← j .1) (j .0); good = rw (← j .0) (j .2) }
           ]
+
+  -- whatever numbers these are, it takes one byte to five for the length, and lies within them
+  pub element-within : (s : List ℕ) (w : ℕ) (v : List ℕ) → element l rule today s ≡ whole w v → (1 ≤ w) × (w ≤ 5) × Permitted l (length v) × (w + length v ≤ length s)
+  element-within s w v e =
+      let r = element-read s w v e in
+      let i = inside s (record { number = r .number; width = w }) (r .read) in
+      (i .0, i .1, permitted-exact l (length v) .0 (r .good .0), omega (arith, i .2, r .fits, length-drop w s, ap length (r .value), length-take-le (r .number) (drop w s) (r .fits)))
+
+  -- what is read was written
+  pub element-is : (s : List ℕ) → Bytes s → (w : ℕ) (v : List ℕ) → element l rule today s ≡ whole w v → Reads s w v
+  element-is s b w v e =
+      let r = element-read s w v e in
+      let x = exact s b (r .number) w .0 (r .read) in
+      let q : r .number ≡ length v = sym (length-take-le (r .number) (drop w s) (r .fits)) ∙ ap length (r .value) in
+      let d : drop (r .number) (drop w s) ≡ drop (w + length v) s = drop-drop (r .number) w s ∙ rw q in
+      record {
+        form = take w s;
+        good = r .good;
+        spelt = rw (← q) (x .1);
+        width = sym (length-take-le w s (x .0));
+        bytes = sym (take-append-drop w s) ∙ ap (λ (y : List ℕ). take w s ++ y) (sym (take-append-drop (r .number) (drop w s)) ∙ rw (r .value, d));
+      }
 
   -- and what is written is read
   pub element-of : (p v r : List ℕ) → Spells p (length v) → Good v → element l rule today (p ++ (v ++ r)) ≡ whole (length p) v

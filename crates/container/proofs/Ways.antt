@@ -61,18 +61,17 @@ no-length kind today [] z h f = absurd (z refl)
 no-length kind today (t ∷ s) z h f = rw (eq-eqb t (outerTag kind) h, none-read 1 s f)
 
 -- what a length of the outer form says of the place after it
-pub within-outer : (c : List ℕ) {n next : ℕ} → Bytes c → (length c ≡ 0 → ⊥) → Is n next ≡ lengthAt 1 (drop 1 c) → next ≤ length c
-within-outer [] b z f = absurd (z refl)
-within-outer (t ∷ s) {n} {next} b z f =
+pub within-outer : (c : List ℕ) {n next : ℕ} → (length c ≡ 0 → ⊥) → Is n next ≡ lengthAt 1 (drop 1 c) → next ≤ length c
+within-outer [] z f = absurd (z refl)
+within-outer (t ∷ s) {n} {next} z f =
     let m = some-read 1 s f in
-    let r = spelling-inside s (b .1) (record { number = n; width = m .0 }) (m .1) in
-    omega (arith, m .2, r .1)
+    omega (arith, m .2, spelling-inside s (record { number = n; width = m .0 }) (m .1) .2)
 
-pub off-end : (kind today : ℕ) (c : List ℕ) {n next : ℕ} → Bytes c → (length c ≡ 0 → ⊥) → getD c 0 0 ≡ outerTag kind → Is n next ≡ lengthAt 1 (drop 1 c) → (length c - next ≡ n → ⊥)
+pub off-end : (kind today : ℕ) (c : List ℕ) {n next : ℕ} → (length c ≡ 0 → ⊥) → getD c 0 0 ≡ outerTag kind → Is n next ≡ lengthAt 1 (drop 1 c) → (length c - next ≡ n → ⊥)
     → lost (outright Overrun) ≡ mapOf (outer kind today c)
 unfolding noted
-off-end kind today [] b z h f k = absurd (z refl)
-off-end kind today (t ∷ s) {n} {next} b z h f k =
+off-end kind today [] z h f k = absurd (z refl)
+off-end kind today (t ∷ s) {n} {next} z h f k =
     let m = some-read 1 s f in
     let k′ : length s ≡ m .0 + n → ⊥ = λ q. k (omega (arith, m .2)) in
     rw (eq-eqb t (outerTag kind) h, m .1, ne-eqb _ _ k′)
@@ -82,10 +81,10 @@ fitted : (kind today t : ℕ) (s : List ℕ) (n w next : ℕ) → t ≡ outerTag
 unfolding mapFrom
 fitted kind today t s n w next h r e k = rw (eq-eqb t (outerTag kind) h, r, eq-eqb _ _ k, e, ← drop-drop w 1 (t ∷ s))
 
-pub fits-outer : (kind today : ℕ) (c : List ℕ) {n next : ℕ} → Bytes c → (length c ≡ 0 → ⊥) → getD c 0 0 ≡ outerTag kind → Is n next ≡ lengthAt 1 (drop 1 c) → length c - next ≡ n
+pub fits-outer : (kind today : ℕ) (c : List ℕ) {n next : ℕ} → (length c ≡ 0 → ⊥) → getD c 0 0 ≡ outerTag kind → Is n next ≡ lengthAt 1 (drop 1 c) → length c - next ≡ n
     → mapFrom kind today c next 0 (zeros 16) (zeros 16) ≡ mapOf (outer kind today c)
-fits-outer kind today [] b z h f k = absurd (z refl)
-fits-outer kind today (t ∷ s) {n} {next} b z h f k =
+fits-outer kind today [] z h f k = absurd (z refl)
+fits-outer kind today (t ∷ s) {n} {next} z h f k =
     let m = some-read 1 s f in
-    let l = within-outer (t ∷ s) b z f in
+    let l = within-outer (t ∷ s) z f in
     fitted kind today t s n (m .0) next h (m .1) (m .2) (omega (arith, m .2))

@@ -10,7 +10,7 @@ use native.Mathlib.Decide.{decLt}
 use lib.ListN.{length, take, drop, take-append-drop, length-append}
 use lib.Seq.{length-take-le, take-append-seam}
 use lib.Dec.{ltb, leb}
-use borrow.Author.Tests.{lt-ltb, le-ltb, le-leb, leb-true}
+use borrow.Author.Tests.{lt-ltb, le-ltb, ltb-false, le-leb, leb-true}
 use Rattle.laws.specs.Bytes.{Bytes}
 use Rattle.laws.specs.Digits.{value, digits}
 use Rattle.laws.specs.Layout.{number}
@@ -120,12 +120,36 @@ else-none s b h = go (readLength s) refl
     go none f = f
     go (some l) f = let k = read-is s b l f in absurd (h (l .number) (l .width) (k .0) (k .1))
 
--- what is read takes a byte at least, and lies within the bytes
-pub inside : (s : List ℕ) → Bytes s → (l : Spelt) → readLength s ≡ some l → (1 ≤ l .width) × (l .width ≤ length s)
-inside s b l e =
-    let k = read-is s b l e in
-    let m : length (take (l .width) s) ≡ l .width = length-take-le (l .width) s (k .0) in
-    (rw m at (spelt-some (take (l .width) s) (l .number) (k .1)), k .0)
+-- what is read takes one byte to five, and lies within what is given, whatever numbers that are
+pub inside : (s : List ℕ) (l : Spelt) → readLength s ≡ some l → (1 ≤ l .width) × (l .width ≤ 5) × (l .width ≤ length s)
+unfolding readLength
+inside [] l e = absurd (no-some e)
+inside (a ∷ r) l e =
+    elim (which (ltb a 128)) [
+      | inl h ↦
+          let e′ : some (record { number = a; width = 1 }) ≡ some l = rw h at e in
+          let q : record { number = a; width = 1 } ≡ l = cc in
+          rw (← q) (omega arith, omega arith, omega arith)
+      | inr h ↦
+          elim (which (leb a 0x84)) [
+            | inl q ↦ after (a - 0x80) (omega (arith, leb-true a 0x84 q)) (rw (h, q) at e)
+            | inr q ↦ absurd (no-some (rw (h, q) at e))
+          ]
+    ]
+  where
+    after : (k : ℕ) → k ≤ 4 → afterCount k r ≡ some l → (1 ≤ l .width) × (l .width ≤ 5) × (l .width ≤ suc (length r))
+    after k b f =
+        elim (which (ltb (length r) k)) [
+          | inl h ↦ absurd (no-some (rw h at f))
+          | inr h ↦
+              elim (which (ltb (value 256 (take k r)) 128)) [
+                | inl g ↦ absurd (no-some (rw (h, g) at f))
+                | inr g ↦
+                    let f′ : some (record { number = value 256 (take k r); width = suc k }) ≡ some l = rw (h, g) at f in
+                    let q : record { number = value 256 (take k r); width = suc k } ≡ l = cc in
+                    rw (← q) (omega arith, omega arith, omega (arith, ltb-false (length r) k h))
+              ]
+        ]
 
 -- ---- no two spellings begin the same bytes
 

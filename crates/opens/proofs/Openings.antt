@@ -16,9 +16,10 @@ use Rattle.kinds.specs.Tables.{Lengths, Entry, Table, table, Permitted}
 use Rattle.kinds.specs.declared.ValueRule.{ValueRule}
 use Rattle.kinds.specs.declared.ValueRule.the-variants.{Free, Fascn, Uuid, Expiry, Model, Application, Policy, Text, Date, Fingers, Face, Iris, Certificate, CertInfo}
 use Rattle.rules.specs.Rules.{Keeps}
-use Rattle.container.specs.Container.{Values, Allowed}
+use Rattle.container.specs.Container.{Values, Fits, Allowed}
+use Rattle.container.proofs.Sizes.{each-allowed, Sized}
 use Rattle.opens.specs.Open.{Opening, opensNone, opensModel, opensCard, opensPolicy, opensIssuer, opensHolder, openings, taggedValue}
-use Rattle.opens.proofs.Valued.{taggedRow, value-fits}
+use Rattle.opens.proofs.Valued.{taggedRow, tagged-each}
 
 -- ---- two rules are told apart by their places in a list
 
@@ -74,27 +75,26 @@ ruledBy rule r = not (r .optional) && eqb (place (r .rule)) (place rule)
 abbrev pub sized : ℕ → Entry → Bool
 sized n r = not (r .optional) && (not (r .lengths .empty) && (eqb (r .lengths .least) n && eqb (r .lengths .most) n))
 
-module _ (today tag : ℕ) (rs : Table) (vs : Values) (a : Allowed today rs vs) where
-  pub value-keeps : (rule : ValueRule) → ruledBy rule (taggedRow rs tag) ≡ true → Keeps rule today (taggedValue rs vs tag)
-  value-keeps rule e =
-      let c = and-true (not (taggedRow rs tag .optional)) (eqb (place (taggedRow rs tag .rule)) (place rule)) e in
-      let f = value-fits today tag rs vs (not-true _ (c .0)) a in
-      rw (same-rule (taggedRow rs tag .rule) rule (c .1)) at (f .rule)
+pub value-keeps : (today tag : ℕ) (rs : Table) (vs : Values) → Allowed today rs vs → (rule : ValueRule) → ruledBy rule (taggedRow rs tag) ≡ true
+    → Keeps rule today (taggedValue rs vs tag)
+value-keeps today tag rs vs a rule e =
+    let c = and-true (not (taggedRow rs tag .optional)) (eqb (place (taggedRow rs tag .rule)) (place rule)) e in
+    let f = tagged-each (Fits today) tag rs vs (not-true _ (c .0)) (each-allowed today (λ r v f. f) rs vs a) in
+    rw (same-rule (taggedRow rs tag .rule) rule (c .1)) at (f .rule)
 
-  pub value-takes : (n : ℕ) → sized n (taggedRow rs tag) ≡ true → length (taggedValue rs vs tag) ≡ n
-  value-takes n e =
-      let l = taggedRow rs tag .lengths in
-      let c = and-true (not (taggedRow rs tag .optional)) _ e in
-      let d = and-true (not (l .empty)) _ (c .1) in
-      let b = and-true (eqb (l .least) n) _ (d .1) in
-      let p = eqb-true _ _ (b .0) in
-      let q = eqb-true _ _ (b .1) in
-      let f = value-fits today tag rs vs (not-true _ (c .0)) a in
-      within l (length (taggedValue rs vs tag)) (not-true _ (d .0)) p q (f .long)
-    where
-      within : (l : Lengths) (k : ℕ) → l .empty ≡ false → l .least ≡ n → l .most ≡ n → Permitted l k → k ≡ n
-      within l k o p q (inl h) = omega arith
-      within l k o p q (inr h) = absurd (true≢false (sym (h .0) ∙ o))
+pub value-takes : (tag : ℕ) (rs : Table) (vs : Values) → Sized rs vs → (n : ℕ) → sized n (taggedRow rs tag) ≡ true → length (taggedValue rs vs tag) ≡ n
+value-takes tag rs vs a n e =
+    let l = taggedRow rs tag .lengths in
+    let c = and-true (not (taggedRow rs tag .optional)) _ e in
+    let d = and-true (not (l .empty)) _ (c .1) in
+    let b = and-true (eqb (l .least) n) _ (d .1) in
+    let p = eqb-true _ _ (b .0) in
+    let q = eqb-true _ _ (b .1) in
+    within l (length (taggedValue rs vs tag)) (not-true _ (d .0)) p q (tagged-each (λ r v. Permitted (r .lengths) (length v)) tag rs vs (not-true _ (c .0)) a)
+  where
+    within : (l : Lengths) (k : ℕ) → l .empty ≡ false → l .least ≡ n → l .most ≡ n → Permitted l k → k ≡ n
+    within l k o p q (inl h) = omega arith
+    within l k o p q (inr h) = absurd (true≢false (sym (h .0) ∙ o))
 
 -- ---- the test
 

@@ -20,9 +20,10 @@ use Rattle.texts.proofs.Reading.{Reads, and, given, so, behind}
 use Rattle.texts.proofs.Numbers.{line-reads, hex-reads, raw-reads}
 use Rattle.container.specs.Container.{Values, Conforms}
 use Rattle.container.proofs.Forms.{conforming-bytes}
+use Rattle.container.proofs.Sizes.{allowed-sized}
 use Rattle.opens.specs.Open.{Open, nothing, model, holder, card, policy, issuer, Opening, opensNone, opensModel, opensCard, opensPolicy, opensIssuer, opensHolder, openBy, taggedValue, agencyOf, systemOf, inHeader, openOf, openPart}
 use Rattle.opens.proofs.Valued.{taggedRow, value-bytes}
-use Rattle.opens.proofs.Openings.{ruledBy, value-keeps, value-takes, opening, sound, sound-kind}
+use Rattle.opens.proofs.Openings.{ruledBy, sized, value-keeps, value-takes, opening, sound, sound-kind}
 
 -- ---- the forms
 
@@ -70,6 +71,9 @@ module _ (k t : ℕ) (vs : Values) (c : List ℕ) (b : Bytes c) (h : Conforms k 
   an-expiry : (tag : ℕ) → ruledBy Expiry (taggedRow (table k) tag) ≡ true → textNumber (taggedValue (table k) vs tag) < 10 ^ 8
   an-expiry tag e = let (n, r, w) = value-keeps t tag (table k) vs (h .allowed) Expiry e in rw (text-number _ n r) (eight-digits _ n r)
 
+  takes : (tag n : ℕ) → sized n (taggedRow (table k) tag) ≡ true → length (taggedValue (table k) vs tag) ≡ n
+  takes tag n e = value-takes tag (table k) vs (allowed-sized t (table k) vs (h .allowed)) n e
+
   -- a biometric record has a FASC-N in its header
   inside : (tag : ℕ) → sound (opensHolder tag) (table k) ≡ true
       → let f = inHeader (taggedValue (table k) vs tag) in (agencyOf f < 10 ^ 4) × (systemOf f < 10 ^ 4)
@@ -92,8 +96,8 @@ module _ (k t u : ℕ) (vs ws : Values) (c d : List ℕ) (b : Bytes c) (g : Byte
       let (f, e) = and-true (ruledBy Fascn (taggedRow (table k) fascn)) _ s in
       card-open-reads _ _ _ _ _ _ (a-fascn k t vs c b h fascn f) (a-fascn k u ws d g i fascn f) (an-expiry k t vs c b h expiry e) (an-expiry k u ws d g i expiry e)
   opening-reads (opensPolicy tag) s =
-      policy-reads _ _ (bytes k t vs c b h tag) (bytes k u ws d g i tag) (value-takes t tag (table k) vs (h .allowed) 2 s) (value-takes u tag (table k) ws (i .allowed) 2 s)
-  opening-reads (opensIssuer tag) s = issuer-reads _ _ (value-takes t tag (table k) vs (h .allowed) 15 s) (value-takes u tag (table k) ws (i .allowed) 15 s)
+      policy-reads _ _ (bytes k t vs c b h tag) (bytes k u ws d g i tag) (takes k t vs c b h tag 2 s) (takes k u ws d g i tag 2 s)
+  opening-reads (opensIssuer tag) s = issuer-reads _ _ (takes k t vs c b h tag 15 s) (takes k u ws d g i tag 15 s)
   opening-reads (opensHolder tag) s = holder-reads _ _ _ _ (inside k t vs c b h tag s) (inside k u ws d g i tag s)
 
   pub open-reads : Reads (openPart (openOf k vs)) (openPart (openOf k ws)) (openOf k vs ≡ openOf k ws)

@@ -4,14 +4,15 @@ use mathlib.Core.Path.{_≡_, sym, _∙_}
 use mathlib.Core.Bool.{false, cond, true≢false}
 use mathlib.Core.Logic.{inl, inr}
 use mathlib.Core.Option.{none, some}
-use mathlib.Core.List.{[], _∷_}
+use mathlib.Core.List.{List, [], _∷_}
 use lib.Dec.{eqb}
 use Rattle.laws.specs.Bytes.{Bytes}
 use Rattle.laws.proofs.Cases.{test, which}
 use Rattle.kinds.specs.Tables.{Entry, Table, may, any}
 use Rattle.kinds.specs.declared.ValueRule.the-variants.{Free}
-use Rattle.container.specs.Container.{Values, Fits, Allowed}
+use Rattle.container.specs.Container.{Values}
 use Rattle.container.proofs.Forms.{AllBytes}
+use Rattle.container.proofs.Sizes.{Each}
 use Rattle.opens.specs.Open.{taggedValue}
 
 -- ---- of a row that must be there
@@ -21,19 +22,20 @@ abbrev pub taggedRow : Table → ℕ → Entry
 taggedRow [] tag = may tag any Free
 taggedRow (r ∷ rs) tag = cond (eqb tag (r .tag)) r (taggedRow rs tag)
 
-pub value-fits : (today tag : ℕ) (rs : Table) (vs : Values) → taggedRow rs tag .optional ≡ false → Allowed today rs vs
-    → Fits today (taggedRow rs tag) (taggedValue rs vs tag)
-value-fits today tag [] vs o a = absurd (true≢false o)
-value-fits today tag (r ∷ rs) [] o a = absurd a
-value-fits today tag (r ∷ rs) (none ∷ vs) o a =
+-- what holds of each value holds of this one
+pub tagged-each : (P : Entry → List ℕ → Type 0) (tag : ℕ) (rs : Table) (vs : Values) → taggedRow rs tag .optional ≡ false → Each P rs vs
+    → P (taggedRow rs tag) (taggedValue rs vs tag)
+tagged-each P tag [] vs o a = absurd (true≢false o)
+tagged-each P tag (r ∷ rs) [] o a = absurd a
+tagged-each P tag (r ∷ rs) (none ∷ vs) o a =
     elim (which (eqb tag (r .tag))) [
       | inl q ↦ absurd (true≢false (sym (a .0) ∙ rw q at o))
-      | inr q ↦ rw q (value-fits today tag rs vs (rw q at o) (a .1))
+      | inr q ↦ rw q (tagged-each P tag rs vs (rw q at o) (a .1))
     ]
-value-fits today tag (r ∷ rs) (some v ∷ vs) o a =
+tagged-each P tag (r ∷ rs) (some v ∷ vs) o a =
     elim (which (eqb tag (r .tag))) [
       | inl q ↦ rw q (a .0)
-      | inr q ↦ rw q (value-fits today tag rs vs (rw q at o) (a .1))
+      | inr q ↦ rw q (tagged-each P tag rs vs (rw q at o) (a .1))
     ]
 
 -- ---- of values of bytes

@@ -26,9 +26,9 @@ use Rattle.verdicts.proofs.Apart.{number-small}
 use Rattle.verdicts.specs.declared.Fault.the-variants.{UnknownKind, NoDate}
 use Rattle.container.specs.Container.{largest}
 use Rattle.container.proofs.Promise.{kind-exact}
-use Rattle.report.specs.Calls.{reportOutput}
+use Rattle.report.specs.Calls.{reportRoom, reportOutput}
 use Rattle.report.proofs.Answers.{report-1, report-cases}
-use Rattle.printout.specs.Printout.{kindOf, kindText, dated, deskOutput, refusedText, shown, deskText, inputSize, reportRoom, printed, Asks}
+use Rattle.printout.specs.Printout.{kindOf, kindText, dated, deskOutput, refusedText, shown, deskText, inputSize, printed, Asks}
 use Rattle.printout.proofs.Ways.{bad-kind, no-date}
 
 -- ---- it fits

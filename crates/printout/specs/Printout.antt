@@ -15,7 +15,7 @@ use Rattle.verdicts.specs.Verdicts.{numberOf, outright}
 use Rattle.verdicts.specs.Output.{Output, refusal, text}
 use Rattle.verdicts.specs.declared.Fault.the-variants.{UnknownKind, NoDate}
 use Rattle.container.specs.Container.{largest}
-use Rattle.report.specs.Calls.{reportOutput}
+use Rattle.report.specs.Calls.{reportRoom, reportOutput}
 
 -- ---- what is printed for an input that was read, with a room of so many bytes for the report
 
@@ -48,9 +48,6 @@ deskText s room = shown (deskOutput s room)
 
 abbrev pub inputSize : ℕ
 inputSize = largest + 11
-
-abbrev pub reportRoom : ℕ
-reportRoom = 512
 
 -- these bytes may go to standard output, where the first `got` bytes of the input buffer were read: what is printed for them, and nothing else
 pub record Prints (buffer : List ℕ) (got : ℕ) (bytes : List ℕ) : Type 0 where

@@ -11,10 +11,11 @@ use Rattle.container.specs.Container.{Values, Conforms}
 use Rattle.container.specs.Reading.{values}
 use Rattle.container.proofs.Promise.{kind-exact}
 use Rattle.report.specs.Report.{reportText}
+use Rattle.report.specs.Calls.{reportRoom}
 use Rattle.report.proofs.Answers.{report-0, report-4, conforming-output}
 use Rattle.report.proofs.Same.{same-forms, same-report, same-verdict}
 use Rattle.report.proofs.Converse.{converse}
-use Rattle.printout.specs.Printout.{shown, inputSize, reportRoom, printed, Asks}
+use Rattle.printout.specs.Printout.{shown, inputSize, printed, Asks}
 use Rattle.printout.proofs.Printed.{text-fits, printed-asked, kind-refused, date-refused}
 use Rattle.promises.specs.Demands.{AtTheDesk}
 
@@ -30,7 +31,7 @@ printed-values {s} {kind} {today} {c} a b vs h = printed-asked a ∙ ap shown (c
 pub at-the-desk : AtTheDesk
 at-the-desk = record {
   report-printed = λ s kind today c b a k l.
-      printed-asked a ∙ ap shown (report-0 kind today c reportRoom (kind-exact kind .1 k) (date-exact today .1 (a-date a)) (omega arith) l b);
+      printed-asked a ∙ ap shown (report-0 kind today c reportRoom (kind-exact kind .1 k) (date-exact today .1 (a-date a)) (omega arith) l);
   kind-refused = kind-refused;
   date-refused = date-refused;
   size-refused = λ s kind today c a k l.

@@ -15,7 +15,8 @@ use Rattle.container.specs.Container.{Values, Conforms, largest}
 use Rattle.container.specs.Reading.{values, parsed}
 use Rattle.container.proofs.Promise.{kind-exact}
 use Rattle.report.specs.Report.{reportText}
-use Rattle.report.proofs.Answers.{short, report-0, names-nothing, conforming-output}
+use Rattle.report.proofs.Answers.{report-0, names-nothing, conforming-output}
+use Rattle.report.proofs.Bound.{never-over}
 use Rattle.report.proofs.Same.{same-forms, same-rooms, same-verdict, rooms-alike}
 use Rattle.report.proofs.Converse.{converse}
 use Rattle.prosianek.specs.Calls.{Reports}
@@ -30,8 +31,8 @@ whole : (kind today : ℕ) (c : List ℕ) → Bytes c → IsKind kind → IsDate
 whole kind today c b k d s before after r l h =
     let k′ = kind-exact kind .1 k in
     let d′ = date-exact today .1 d in
-    let e = report-0 kind today c (length before) k′ d′ l s b in
-    let t = short kind today c (length before) k′ d′ l s b in
+    let e = report-0 kind today c (length before) k′ d′ l s in
+    let t = never-over kind today c k s in
     (gave before e (h .leaves) .0, rw (h .leaves .answer, e), rw (h .leaves .answer, e) t, h .leaves .room ∙ rw e)
 
 -- what was written of a container that conforms is the report of its values

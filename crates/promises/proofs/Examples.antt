@@ -40,7 +40,7 @@ use Rattle.verdicts.specs.Verdicts.{numberOf, found, verdictOf}
 use Rattle.verdicts.specs.declared.Fault.{Fault}
 use Rattle.verdicts.specs.declared.Outcome.the-variants.{Broken}
 use Rattle.verdicts.specs.declared.Verdict.{Verdict}
-use Rattle.verdicts.specs.Output.{bytesOf, doneOf, Leaves}
+use Rattle.verdicts.specs.Output.{Output, refusal, text, bytesOf, doneOf, Leaves}
 use Rattle.verdicts.specs.declared.Tag.{Tag}
 use Rattle.verdicts.specs.declared.Tag.the-variants.{NoTag, Of}
 use Rattle.rules.specs.Rules.{ruleOf}
@@ -51,12 +51,19 @@ use Rattle.sheet.specs.Sheet.{sheetOf}
 use Rattle.sheet.specs.declared.Checked.{Checked}
 use Rattle.writing.specs.Writing.{writeOutput}
 use Rattle.writing.proofs.Calls.{leaves}
+use Rattle.texts.specs.Text.{fixed, decimal, hex2, hexTag}
+use Rattle.card.specs.Card.{cardPart}
+use Rattle.elements.specs.Elements.{elementLines, elementCount}
+use Rattle.opens.specs.Open.{openPart}
+use Rattle.report.specs.Report.{reportText}
+use Rattle.report.specs.Calls.{reportOutput}
+use Rattle.report.proofs.Answers.{names-nothing}
 use Rattle.prosianek.proofs.Checking.{answer, output, only}
-use Rattle.promises.specs.Examples.{Example, fascn-of, no-fascn, spells, no-length, date, no-date, kept, late, printed-date, no-printed-date, conforms, breaks, checks, writes, today, Holds, All, examples}
+use Rattle.promises.specs.Examples.{Example, fascn-of, no-fascn, spells, no-length, date, no-date, kept, late, printed-date, no-printed-date, conforms, breaks, checks, writes, reports, today, Holds, All, examples}
 
 -- ---- each row as a test
 
-areBytes : List ℕ → Bool
+unfoldable pub areBytes : List ℕ → Bool
 areBytes = each (λ b. ltb b 256)
 
 isNone : Option Spelt → Bool
@@ -73,6 +80,11 @@ sameTag NoTag NoTag = true
 sameTag NoTag (Of u) = false
 sameTag (Of t) NoTag = false
 sameTag (Of t) (Of u) = eqb t u
+
+-- with this number, and these bytes
+sameOutput : Output → ℕ → List ℕ → Bool
+sameOutput (refusal f) number bytes = eqb (numberOf (f .fault)) number && same [] bytes
+sameOutput (text t) number bytes = eqb 0 number && same t bytes
 
 tested : Example → Bool
 tested (fascn-of s n) = inRange n && same s (encoded n)
@@ -98,6 +110,7 @@ tested (writes kind s room number place tag c) =
     let o = writeOutput kind today s room in
     let d = doneOf o in
     areBytes s && eqb (d .number) number && eqb (d .place) place && sameTag (d .tag) tag && eqb (d .length) (length c) && same (bytesOf o) c
+tested (reports kind c room number bytes) = sameOutput (reportOutput kind today c room) number bytes
 
 allTested : List Example → Bool
 allTested [] = true
@@ -105,7 +118,7 @@ allTested (e ∷ es) = tested e && allTested es
 
 -- ---- what is tested holds
 
-are-bytes : (s : List ℕ) → areBytes s ≡ true → Bytes s
+pub are-bytes : (s : List ℕ) → areBytes s ≡ true → Bytes s
 unfolding areBytes
 are-bytes [] e = tt
 are-bytes (b ∷ s) e = let c = and-true (ltb b 256) (each (λ b. ltb b 256) s) e in (ltb-true b 256 (c .0), are-bytes s (c .1))
@@ -181,6 +194,26 @@ writes-so kind s room number place tag c t before after r q h =
     let w : Leaves o before after r = rw q at (leaves (are-bytes s (d 0)) (h .puts)) in
     (w .answer ∙ (λ i. record { number = n i; place = p i; tag = g i; length = l i }), w .room ∙ rw (q, same-eq (bytesOf o) c (d 5)))
 
+same-output : (o : Output) (number : ℕ) (bytes : List ℕ) → sameOutput o number bytes ≡ true → (doneOf o .number ≡ number) × (doneOf o .length ≡ length bytes) × (bytesOf o ≡ bytes)
+unfolding sameOutput
+same-output (refusal f) number bytes t =
+    let d = and-true (eqb (numberOf (f .fault)) number) (same [] bytes) t in
+    let e = same-eq [] bytes (d .1) in
+    (eqb-true _ _ (d .0), ap length e, e)
+same-output (text u) number bytes t =
+    let d = and-true (eqb 0 number) (same u bytes) t in
+    let e = same-eq u bytes (d .1) in
+    (eqb-true _ _ (d .0), ap length e, e)
+
+reports-so : (kind : ℕ) (c : List ℕ) (room number : ℕ) (bytes : List ℕ) → tested (reports kind c room number bytes) ≡ true → Holds (reports kind c room number bytes)
+unfolding tested
+reports-so kind c room number bytes t before after r q h =
+    let o = reportOutput kind today c room in
+    let (n, l, b) = same-output o number bytes t in
+    let (p, g) = names-nothing kind today c room in
+    let w : Leaves o before after r = rw q at (h .leaves) in
+    (w .answer ∙ (λ i. record { number = n i; place = p i; tag = g i; length = l i }), w .room ∙ rw (q, b))
+
 so : (e : Example) → tested e ≡ true → Holds e
 unfolding tested isNone
 so (fascn-of s n) t = let c = and-true (inRange n) (same s (encoded n)) t in record { in-range = range-exact n .0 (c .0); written = same-eq s (encoded n) (c .1) }
@@ -205,6 +238,7 @@ so (breaks kind c number place tag) t =
     breaks-so kind c (are-bytes c (d 0)) number place tag (fails (eqb number 0) (eqb-true number 0, eq-eqb number 0) (d 1)) (eqb-true _ _ (d 2)) (eqb-true _ _ (d 3)) (same-tag _ _ (d 4))
 so (checks kind c room number place tag three sheet) t = checks-so kind c room number place tag three sheet t
 so (writes kind s room number place tag c) t = writes-so kind s room number place tag c t
+so (reports kind c room number bytes) t = reports-so kind c room number bytes t
 
 all-so : (es : List Example) → allTested es ≡ true → All es
 unfolding allTested
@@ -212,7 +246,7 @@ all-so [] t = tt
 all-so (e ∷ es) t = let c = and-true (tested e) (allTested es) t in (so e (c .0), all-so es (c .1))
 
 all-tested : allTested examples ≡ true
-unfolding allTested tested areBytes isNone isLength sameTag examples ones digits exclusive values checked characters encoded valuesOf framed decoded isFascn lengthBytes readLength daysIn exists isDate dateOf twoDigits monthNumber isPrintedDate isMoment isUuid isPolicy isText ended isCreator pointHolds pointsHold viewHead fills whole extent recordHead isMinutiae informed blockExtent faceHead isFacial dateHolds marksHold shapeHolds irisExtent irisHead isIris readDer headOf items walked certificate ruleOf element located parsed outcome sheetOf writeOutput
+unfolding allTested tested areBytes isNone isLength sameTag sameOutput examples ones digits exclusive values checked characters encoded valuesOf framed decoded isFascn lengthBytes readLength daysIn exists isDate dateOf twoDigits monthNumber isPrintedDate isMoment isUuid isPolicy isText ended isCreator pointHolds pointsHold viewHead fills whole extent recordHead isMinutiae informed blockExtent faceHead isFacial dateHolds marksHold shapeHolds irisExtent irisHead isIris readDer headOf items walked certificate ruleOf element located parsed outcome sheetOf writeOutput fixed decimal hex2 hexTag cardPart elementLines elementCount openPart reportText reportOutput
 all-tested = refl
 
 pub examples-hold : All examples

@@ -5,3 +5,4 @@ pub mod Demand3
 pub mod AtTheDesk
 pub mod Settled
 pub mod Examples
+pub mod Longest

@@ -1,7 +1,7 @@
 -- The user's three demands, in the user's order and words, as statements about the six calls of the door (`Checks`, `Writes`, `Views`, `Reports`,
 -- `Decodes`, `Encodes`: what a call answers and leaves; `Judges`: the verdict that a check gives). Each is a record of statements, and `proofs/` has the
--- theorem for each: `demand-1`, `demand-2`, `demand-3`; `at-the-desk`, the third of what the desk program prints; `settled` and `settled-for-c`, that no
--- answer is left open.
+-- theorem for each: `demand-1`, `demand-2`, `demand-3`; `at-the-desk`, the third of what the desk program prints; `no-long-report`, what 2026-12 asks for;
+-- `settled` and `settled-for-c`, that no answer is left open.
 --
 -- A room is `before` when it is lent and `after` when it comes back. `Bytes c` says that each number of c is below 256, as it is in every slice that a
 -- program can give.
@@ -38,6 +38,7 @@ use Rattle.sheet.specs.declared.Checked.{Checked}
 use Rattle.elements.specs.Elements.{shape}
 use Rattle.opens.specs.Open.{agencyOf, systemOf, openOf}
 use Rattle.report.specs.Report.{reportText}
+use Rattle.report.specs.Longest.{longestOf}
 use Rattle.writing.specs.InOrder.{Refused}
 use Rattle.views.specs.Views.{placeOf}
 use Rattle.prosianek.specs.Calls.{Judges, Checks, Writes, Views, Reports, Decodes, Encodes}
@@ -257,6 +258,28 @@ pub record AtTheDesk : Type 0 where
       → (k ≡ l) × (t ≡ u) × (shape vs ≡ shape ws) × (openOf k vs ≡ openOf k ws)
   -- no text is longer than the room of 512 bytes, so none is cut off
   pub never-cut : (s : List ℕ) → length (printed s) ≤ 512
+
+-- ---- 2026-12. "Show that no report of any kind in use then exceeds 512 bytes, and remove the number and its branch. A later kind has to keep the bound.
+-- Refusals: 8 is withdrawn and not used again; the order is otherwise the same."
+
+-- what `report` answers about a room of so many bytes: 1, 2, 3 or 4, each only where none before it is due, or 0
+pub data InTurn (kind today : ℕ) (c : List ℕ) (room number : ℕ) : Type 0 where
+  no-kind : (IsKind kind → ⊥) → number ≡ numberOf UnknownKind → InTurn kind today c room number
+  no-date : IsKind kind → (IsDate today → ⊥) → number ≡ numberOf NoDate → InTurn kind today c room number
+  small-room : IsKind kind → IsDate today → room < 512 → number ≡ numberOf SmallRoom → InTurn kind today c room number
+  too-large : IsKind kind → IsDate today → 512 ≤ room → largest < length c → number ≡ numberOf LargeContainer → InTurn kind today c room number
+  reported : IsKind kind → IsDate today → 512 ≤ room → length c ≤ largest → number ≡ 0 → InTurn kind today c room number
+
+pub record NoLongReport : Type 0 where
+  -- no report of a kind, of a container that conforms or of one that does not, is longer than the kind's figure; and no figure is over 512
+  pub at-most : (kind today : ℕ) (c before after : List ℕ) (r : Done) → Reports kind today c before after r → r .length ≤ longestOf kind
+  pub within-512 : (kind : ℕ) → longestOf kind ≤ 512
+  -- nor is a figure too high: of every kind in use there is a container that conforms and whose report is so long
+  pub reached : (kind : ℕ) → IsKind kind → (today : ℕ) × (vs : Values) × (c : List ℕ) × Bytes c × Conforms kind today vs c
+      × ((before after : List ℕ) (r : Done) → 512 ≤ length before → Reports kind today c before after r → r .length ≡ longestOf kind)
+  -- "the order is otherwise the same"; "8 is withdrawn and not used again", by no call, and 9 never was used
+  pub in-order : (kind today : ℕ) (c before after : List ℕ) (r : Done) → Reports kind today c before after r → InTurn kind today c (length before) (r .number)
+  pub withdrawn : (Numbered 8 → ⊥) × (Numbered 9 → ⊥)
 
 -- ---- "For each public call the contract determines number, place, returned part and each byte of lent room, on every input and every refusal. Any two
 -- results that satisfy it are shown equal." The tag is a part of the answer as the place is. Rooms of one length may have held anything before. (A returned part has a block, an offset and bytes; the ghost

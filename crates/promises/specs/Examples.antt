@@ -1,9 +1,9 @@
--- The examples of document 01, P1 to P14, those of requests 2026-04, 2026-13, 2026-02, 2026-01, 2026-03, 2026-05 and 2026-06, and further rows, as one table: what each row says, over the rules themselves, and the table.
+-- The examples of document 01, P1 to P14, those of requests 2026-04, 2026-13, 2026-02, 2026-01, 2026-03, 2026-05, 2026-06 and 2026-12, and further rows, as one table: what each row says, over the rules themselves, and the table.
 use Prim.Native.Nat.{ℕ, zero, suc, _+_}
 use mathlib.Core.Path.{_≡_}
 use mathlib.Core.Option.{Option, none, some}
 use mathlib.Core.List.{List, [], _∷_, _++_}
-use lib.ListN.{length, replicate}
+use lib.ListN.{length, getD, replicate}
 use Rattle.laws.specs.Ascii.{ascii}
 use Rattle.laws.specs.Layout.{number}
 use Rattle.laws.specs.Room.{filled}
@@ -21,7 +21,7 @@ use Rattle.rules.specs.Rules.{application}
 use Rattle.container.specs.Container.{Values, container, Conforms}
 use Rattle.container.specs.InOrder.{Named}
 use Rattle.sheet.specs.declared.Checked.{Checked}
-use Rattle.prosianek.specs.Calls.{Checks, Writes}
+use Rattle.prosianek.specs.Calls.{Checks, Writes, Reports}
 
 -- ---- what a row of the table says
 
@@ -40,6 +40,7 @@ pub data Example : Type 0 where
   breaks : ℕ → List ℕ → ℕ → ℕ → Tag → Example
   checks : ℕ → List ℕ → ℕ → ℕ → ℕ → Tag → ℕ → List ℕ → Example
   writes : ℕ → List ℕ → ℕ → ℕ → ℕ → Tag → List ℕ → Example
+  reports : ℕ → List ℕ → ℕ → ℕ → List ℕ → Example
 
 -- "With today 20260301"
 abbrev pub today : ℕ
@@ -64,6 +65,9 @@ Holds (checks kind c room number place tag short sheet) = (before after : List �
 -- a write of this sheet, with a room of so many bytes, whatever they were, answers this number, place and tag, and leaves this container and zeros
 Holds (writes kind s room number place tag c) = (before after : List ℕ) (r : Done) → length before ≡ room → Writes kind today s before after r
     → (r ≡ record { number = number; place = place; tag = tag; length = length c }) × (after ≡ filled c room)
+-- a report with a room of so many bytes, whatever they were, answers this number, no place and no tag, and leaves this text and zeros
+Holds (reports kind c room number text) = (before after : List ℕ) (r : Done) → length before ≡ room → Reports kind today c before after r
+    → (r ≡ record { number = number; place = 0; tag = NoTag; length = length text }) × (after ≡ filled text room)
 
 abbrev pub All : List Example → Type 0
 All [] = Unit {0}
@@ -142,7 +146,7 @@ printedSheet text = 0 ∷ 1 ∷ 0 ∷ 1 ∷ 0 ∷ (length text + 1) ∷ (text ++
 abbrev security : List ℕ
 security = container 5 (some [] ∷ some [] ∷ some [] ∷ [])
 
--- a CBEFF header: the data length, the owner, the format, the type, the data type, the quality, and its end given; the end: P1's FASC-N and the reserved
+-- a CBEFF header: the data length, the signature's, the owner, the format, the type, the data type, the quality, and its end given; the end: P1's FASC-N and the reserved
 -- bytes
 abbrev moment : List ℕ
 moment = 20 ∷ 26 ∷ 1 ∷ 1 ∷ 0 ∷ 0 ∷ 0 ∷ 0x5A ∷ []
@@ -150,9 +154,9 @@ moment = 20 ∷ 26 ∷ 1 ∷ 1 ∷ 0 ∷ 0 ∷ 0 ∷ 0x5A ∷ []
 abbrev cbeffEnd : List ℕ
 cbeffEnd = p1 0xEB ++ replicate 4 0
 
-abbrev cbeffHead : ℕ → ℕ → ℕ → ℕ → ℕ → ℕ → List ℕ → List ℕ
-cbeffHead d owner format sort type quality ending =
-    0x03 ∷ 0x0D ∷ (number 4 d ++ (0 ∷ 1 ∷ (number 2 owner ++ (number 2 format
+abbrev cbeffHead : ℕ → ℕ → ℕ → ℕ → ℕ → ℕ → ℕ → List ℕ → List ℕ
+cbeffHead d s owner format sort type quality ending =
+    0x03 ∷ 0x0D ∷ (number 4 d ++ (number 2 s ++ (number 2 owner ++ (number 2 format
     ++ (moment ++ (moment ++ (moment ++ (number 3 sort ++ (type ∷ quality ∷ (replicate 18 0 ++ ending))))))))))
 
 -- a minutiae record without points
@@ -162,7 +166,7 @@ record38 =
     ∷ (replicate 10 9 ++ (0 ∷ 197 ∷ 0 ∷ 197 ∷ 2 ∷ 0 ∷ 1 ∷ 0 ∷ 60 ∷ 0 ∷ 0 ∷ 0 ∷ 6 ∷ 2 ∷ 254 ∷ 0 ∷ 0 ∷ 0 ∷ []))
 
 abbrev fingers : ℕ → List ℕ
-fingers quality = container 6 (some (cbeffHead 38 0x001B 0x0201 0x08 0x80 quality cbeffEnd ++ (record38 ++ (0x30 ∷ []))) ∷ some [] ∷ [])
+fingers quality = container 6 (some (cbeffHead 38 1 0x001B 0x0201 0x08 0x80 quality cbeffEnd ++ (record38 ++ (0x30 ∷ []))) ∷ some [] ∷ [])
 
 -- 2026-05: an image's information, its four fields that 9.6 names given; a block that says so many bytes and points; a record that says so many bytes and
 -- images
@@ -181,7 +185,7 @@ portrait size blockSize points information = portraits size 1 (block blockSize p
 
 -- a face's BC with this quality, this end of its header, and this record; its container
 abbrev faceValue : ℕ → List ℕ → List ℕ → List ℕ
-faceValue quality ending rec = cbeffHead (length rec) 0x001B 0x0501 0x02 0x20 quality ending ++ (rec ++ (0x30 ∷ []))
+faceValue quality ending rec = cbeffHead (length rec) 1 0x001B 0x0501 0x02 0x20 quality ending ++ (rec ++ (0x30 ∷ []))
 
 abbrev faced : ℕ → List ℕ → List ℕ → List ℕ
 faced quality ending rec = container 7 (some (faceValue quality ending rec) ∷ some [] ∷ [])
@@ -228,7 +232,7 @@ irisOf image = irises (68 + image) 1 1 (represented (52 + image) march (0 ∷ []
 
 -- an iris's BC with this owner of the format, this quality, this end of its header, and this record; its container; with nothing else wrong
 abbrev irisValue : ℕ → ℕ → List ℕ → List ℕ → List ℕ
-irisValue owner quality ending rec = cbeffHead (length rec) owner 0x0009 0x10 0x40 quality ending ++ (rec ++ (0x30 ∷ []))
+irisValue owner quality ending rec = cbeffHead (length rec) 1 owner 0x0009 0x10 0x40 quality ending ++ (rec ++ (0x30 ∷ []))
 
 abbrev irised : ℕ → ℕ → List ℕ → List ℕ → List ℕ
 irised owner quality ending rec = container 12 (some (irisValue owner quality ending rec) ∷ some [] ∷ [])
@@ -258,6 +262,52 @@ certified kind certificate info uid = container kind (some certificate ∷ some 
 -- with nothing but the certificate
 abbrev bare : List ℕ → List ℕ
 bare certificate = certified 8 certificate 0x00 none
+
+-- 2026-12: a container of each kind with the longest report: every element, each as long as the digits of its length can tell
+abbrev longCcc : List ℕ
+longCcc =
+    container 1
+    (some (replicate 21 1) ∷ some (1 ∷ []) ∷ some (1 ∷ []) ∷ some (replicate 128 1) ∷ some (1 ∷ []) ∷ some (0x10 ∷ []) ∷ some (replicate 17 1) ∷ some [] ∷ some []
+    ∷ some [] ∷ some [] ∷ some [] ∷ some (replicate 48 1) ∷ some (replicate 48 1) ∷ some [] ∷ [])
+
+abbrev longChuid : List ℕ
+longChuid =
+    container 2
+    (some (1 ∷ 2 ∷ []) ∷ some (p1 0xEB) ∷ some (replicate 4 3) ∷ some (replicate 9 4) ∷ some uuid ∷ some expiry ∷ some uuid ∷ some (replicate 10000 7) ∷ some [] ∷ [])
+
+abbrev longPrinted : List ℕ
+longPrinted =
+    container 4
+    (some (replicate 125 0x41) ∷ some (replicate 20 0x42) ∷ some (ascii "2030JAN31") ∷ some (replicate 20 0x43) ∷ some (replicate 15 0x44) ∷ some (replicate 20 0x45)
+    ∷ some (replicate 20 0x46) ∷ some [] ∷ [])
+
+abbrev longSecurity : List ℕ
+longSecurity = container 5 (some (replicate 30 1) ∷ some (replicate 1298 2) ∷ some [] ∷ [])
+
+-- a BC with a signature of 10,000 bytes; a certificate with an OCTET STRING of 10,000 bytes, and its container
+abbrev longBiometric : ℕ → ℕ → ℕ → ℕ → ℕ → List ℕ → List ℕ
+longBiometric kind owner format sort type rec =
+    container kind (some (cbeffHead (length rec) 10000 owner format sort type 0x64 cbeffEnd ++ (rec ++ replicate 10000 0x30)) ∷ some [] ∷ [])
+
+abbrev longCertificate : List ℕ
+longCertificate = 0x30 ∷ 0x82 ∷ 0x27 ∷ 0x18 ∷ 0x04 ∷ 0x82 ∷ 0x27 ∷ 0x10 ∷ (replicate 10000 1 ++ (null ++ null))
+
+abbrev longCertified : ℕ → List ℕ
+longCertified kind = certified kind longCertificate 0x00 (some (replicate 38 0x41))
+
+-- in the order of the kinds; none for a number that is no kind
+abbrev pub longestCards : List (List ℕ)
+longestCards =
+    longCcc ∷ longChuid ∷ discovery 0x40 ∷ longPrinted ∷ longSecurity ∷ longBiometric 6 0x001B 0x0201 0x08 0x80 record38
+    ∷ longBiometric 7 0x001B 0x0501 0x02 0x20 (portrait 52 38 0 (about 1 0 1 2)) ∷ longCertified 8 ∷ longCertified 9 ∷ longCertified 10 ∷ longCertified 11
+    ∷ longBiometric 12 0x0101 0x0009 0x10 0x40 (irisOf 0) ∷ []
+
+abbrev pub longestCard : ℕ → List ℕ
+longestCard kind = getD ([] ∷ longestCards) kind []
+
+-- a CARDAUTH that ends where FE is due
+abbrev unended : List ℕ
+unended = 0x53 ∷ 0x82 ∷ 0x27 ∷ 0x23 ∷ 0x70 ∷ 0x82 ∷ 0x27 ∷ 0x1C ∷ (longCertificate ++ element 0x71 (0 ∷ []))
 
 -- ---- the table
 
@@ -532,4 +582,20 @@ examples =
     ∷ breaks 7 (seen (irisOf 0)) 21 3 (Of 0xBC)
     ∷ breaks 12 (face 0x64) 21 3 (Of 0xBC)
     ∷ writes 12 (0 ∷ 97 ∷ (irisValue 0x0101 0x64 cbeffEnd (ascii "RUBBISH") ++ (0 ∷ 1 ∷ []))) 200 27 0 (Of 0xBC) []
+    -- 2026-12: case R with a room of 512 bytes, and of 511; 1 comes before 3, and 3 before 4
+    ∷ reports 2 chuid 512 0 (ascii "CARD 4\nkind CHUID\nbytes 61\ntoday 20260301\nverdict 0 0 --\nELEMENTS 5\n30 25\n34 16\n35 8\n3E 0\nFE 0\nOPEN 3\nagency 1234\nsystem 0001\nexpires 20300131\n")
+    ∷ reports 2 chuid 511 3 []
+    ∷ reports 13 chuid 511 1 []
+    ∷ reports 2 (replicate 32769 0) 511 3 []
+    ∷ reports 2 (replicate 32769 0) 512 4 []
+    ∷ reports 2 (replicate 32768 0) 512 0 (ascii "CARD 4\nkind CHUID\nbytes 32768\ntoday 20260301\nverdict 10 0 --\nELEMENTS 0\nOPEN 0\n")
+    -- the longest report of a kind, of a certificate and of a biometric record too; and one of a container that breaks a rule, at a place of five digits
+    ∷ reports 1 (longestCard 1) 512 0 (ascii "CARD 4\nkind CCC\nbytes 301\ntoday 20260301\nverdict 0 0 --\nELEMENTS 15\nF0 21\nF1 1\nF2 1\nF3 128\nF4 1\nF5 1\nF6 17\nF7 0\nFA 0\nFB 0\nFC 0\nFD 0\nE3 48\nB4 48\nFE 0\nOPEN 1\nmodel 10\n")
+    ∷ reports 2 (longestCard 2) 512 0 (ascii "CARD 4\nkind CHUID\nbytes 10104\ntoday 20260301\nverdict 0 0 --\nELEMENTS 9\nEE 2\n30 25\n32 4\n33 9\n34 16\n35 8\n36 16\n3E 10000\nFE 0\nOPEN 3\nagency 1234\nsystem 0001\nexpires 20300131\n")
+    ∷ reports 3 (longestCard 3) 512 0 (ascii "CARD 4\nkind DISCOVERY\nbytes 20\ntoday 20260301\nverdict 0 0 --\nELEMENTS 2\n4F 11\n5F2F 2\nOPEN 1\npolicy 4000\n")
+    ∷ reports 4 (longestCard 4) 512 0 (ascii "CARD 4\nkind PRINTED\nbytes 248\ntoday 20260301\nverdict 0 0 --\nELEMENTS 8\n01 125\n02 20\n04 9\n05 20\n06 15\n07 20\n08 20\nFE 0\nOPEN 1\nissuer DDDDDDDDDDDDDDD\n")
+    ∷ reports 5 (longestCard 5) 512 0 (ascii "CARD 4\nkind SECURITY\nbytes 1340\ntoday 20260301\nverdict 0 0 --\nELEMENTS 3\nBA 30\nBB 1298\nFE 0\nOPEN 0\n")
+    ∷ reports 11 (longestCard 11) 512 0 (ascii "CARD 4\nkind CARDAUTH\nbytes 10065\ntoday 20260301\nverdict 0 0 --\nELEMENTS 4\n70 10012\n71 1\n72 38\nFE 0\nOPEN 0\n")
+    ∷ reports 12 (longestCard 12) 512 0 (ascii "CARD 4\nkind IRIS\nbytes 10166\ntoday 20260301\nverdict 0 0 --\nELEMENTS 2\nBC 10156\nFE 0\nOPEN 2\nagency 1234\nsystem 0001\n")
+    ∷ reports 11 unended 512 0 (ascii "CARD 4\nkind CARDAUTH\nbytes 10023\ntoday 20260301\nverdict 15 10023 --\nELEMENTS 0\nOPEN 0\n")
     ∷ []

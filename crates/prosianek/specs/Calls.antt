@@ -38,7 +38,7 @@ pub record Writes (kind today : ℕ) (s before after : List ℕ) (r : Done) : Ty
 pub record Views (kind today : ℕ) (c : List ℕ) (element : ℕ) (at : ℕ × ℕ) (number place tag : ℕ) (part : ℕ × ℕ) (bytes : List ℕ) : Type 0 where
   pub shows : Answers (viewed kind today c element) at number place tag part bytes
 
--- "Report: 1, 2, 3, 4, then 8; broken rules are reported"
+-- "Report: 1, 2, 3, 4 ..; broken rules are reported"
 pub record Reports (kind today : ℕ) (c before after : List ℕ) (r : Done) : Type 0 where
   pub leaves : Leaves (reportOutput kind today c (length before)) before after r
 

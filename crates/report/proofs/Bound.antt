@@ -1,64 +1,100 @@
--- "8: report over 512 bytes" is never said: no report is so long, whether the container conforms or not. Assumes nothing.
+-- 2026-12: no report of any kind in use exceeds 512 bytes, whether the container conforms or not. Assumes nothing.
+--     never-over        no report of a kind is over 512 bytes
+--     report-length     nor over the figure that `longest` has for the kind
+--     under-room        no figure is over 512
+-- "A later kind has to keep the bound": its figure goes into `longest`. The checker computes the figure of every kind from its table, its name and what is
+-- open of it; so `as-computed` refuses a figure that is missing or not the one computed, and `under-room` one over 512. Nothing else is to be shown.
 use Prim.Native.Nat.{ℕ, _+_, _≤_}
-use mathlib.Core.Path.{_≡_, refl, ap}
+use mathlib.Core.Path.{_≡_, refl}
+use mathlib.Core.Bool.{Bool, true, cond, _&&_}
+use mathlib.Core.Logic.{inl, inr}
 use mathlib.Core.List.{List, [], _∷_, _++_}
+use native.Mathlib.Nat.{le-trans}
 use native.Mathlib.Omega.{arith}
-use lib.ListN.{length, length-append, length-take}
-use Rattle.laws.specs.Bytes.{Bytes}
-use Rattle.kinds.specs.Tables.{table}
-use Rattle.verdicts.specs.Verdicts.{outright, verdictOf}
-use Rattle.verdicts.specs.declared.Fault.{Fault}
-use Rattle.verdicts.specs.declared.Finding.{Finding}
+use lib.Dec.{leb, eqb}
+use lib.ListN.{length, length-append}
+use borrow.Author.Tests.{leb-true, eqb-true, ne-eqb}
+use Rattle.laws.specs.Tests.{allBelow}
+use Rattle.laws.proofs.Cases.{which, and-true, at-each, along}
+use Rattle.texts.specs.Text.{decimal, hex2, hexTag}
+use Rattle.texts.proofs.Bounds.{decimal-grows}
+use Rattle.kinds.specs.Tables.{tables, table, IsKind}
+use Rattle.verdicts.specs.Verdicts.{verdictOf}
 use Rattle.verdicts.specs.declared.Outcome.the-variants.{Fine, Broken}
 use Rattle.verdicts.proofs.Apart.{number-small}
-use Rattle.container.specs.Container.{spelled, largest}
+use Rattle.container.specs.Container.{largest}
 use Rattle.container.specs.Reading.{Parsed, values, fault, parsed}
-use Rattle.container.specs.InOrder.{Named, no-kind, no-date, too-large, outer-tag, outer-length, outer-end, in-element}
-use Rattle.container.proofs.Promise.{exact, named}
-use Rattle.card.specs.Card.{cardPart}
-use Rattle.card.proofs.Bound.{card-length}
-use Rattle.elements.specs.Elements.{shape, elementsPart}
-use Rattle.elements.proofs.Bound.{elements-length}
+use Rattle.container.proofs.Sizes.{sizeMost, Measured, measured}
+use Rattle.card.specs.Card.{kindName, cardPart}
+use Rattle.card.proofs.Bound.{card-length, card-most}
+use Rattle.elements.specs.Elements.{shape, elementLines, elementCount, elementsPart}
+use Rattle.elements.proofs.Bound.{fullest, elements-most}
 use Rattle.opens.specs.Open.{openOf, openPart}
-use Rattle.opens.proofs.Bound.{open-length}
+use Rattle.opens.proofs.Openings.{opening}
+use Rattle.opens.proofs.Bound.{openLength, open-length}
 use Rattle.report.specs.Report.{reportText}
+use Rattle.report.specs.Calls.{reportRoom}
+use Rattle.report.specs.Longest.{longest, longestOf}
 
--- ---- the place of what is wrong lies within the container
+-- ---- the figures
 
-at-start : {f : Finding} {g : Fault} {n : ℕ} → f ≡ outright g → f .place ≤ n
-at-start {n = n} e = let z = ap (λ (f : Finding). f .place) e in omega (arith, z)
+-- a container of a kind has no more bytes than its table allows, and than any container may have
+abbrev sizeOf : ℕ → ℕ
+sizeOf kind = cond (leb (sizeMost (table kind)) largest) (sizeMost (table kind)) largest
 
-placed : (kind today : ℕ) (c : List ℕ) (f : Finding) → Named kind today c f → f .place ≤ length c
-placed kind today c f (no-kind h e) = at-start e
-placed kind today c f (no-date k h e) = at-start e
-placed kind today c f (too-large k d l e) = at-start e
-placed kind today c f (outer-tag k d l h e) = at-start e
-placed kind today c f (outer-length k d l h n e) = at-start e
-placed kind today c f (outer-end k d l h p n r i m e) = at-start e
-placed kind today [] f (in-element k d l h p n r i m w) = let z : _≡_ {A = ℕ} 0 1 = cc in absurd (omega arith)
-placed kind today (t ∷ s) f (in-element k d l h p n r i m w) =
-    let front = spelled (w .rows) (w .vs) (w .ps) in
-    omega (arith, w .place-is, ap length (w .written), length-take (length front) r, ap length (i .1), length-append p r)
+-- every line that a report of the kind can have, with the greatest numbers
+abbrev computed : ℕ → ℕ
+computed kind = 50 + (length (kindName kind) + length (decimal (sizeOf kind))) + length (elementsPart (table kind) (fullest (table kind))) + openLength (opening kind)
+
+-- the figure is this one; and over the 89 bytes that the report of a container which breaks a rule can have
+fits : ℕ → Bool
+fits kind = eqb (computed kind) (longestOf kind) && leb 89 (longestOf kind)
+
+all-fit : allBelow (λ k. cond (eqb k 0) true (fits k)) (length ([] ∷ tables)) ≡ true
+unfolding allBelow fits decimal hex2 hexTag elementLines elementCount
+all-fit = refl
+
+as-computed : (kind : ℕ) → IsKind kind → (computed kind ≡ longestOf kind) × (89 ≤ longestOf kind)
+unfolding fits
+as-computed kind k =
+    let t = at-each (λ k. cond (eqb k 0) true (fits k)) (length ([] ∷ tables)) all-fit kind (omega arith) in
+    let p = and-true (eqb (computed kind) (longestOf kind)) (leb 89 (longestOf kind)) (rw (ne-eqb kind 0 (λ z. omega arith)) at t) in
+    (eqb-true _ _ (p .0), leb-true _ _ (p .1))
+
+pub under-room : (kind : ℕ) → longestOf kind ≤ reportRoom
+unfolding allBelow
+under-room kind = leb-true _ _ (along (0 ∷ longest) 0 (λ k n. leb n reportRoom) refl (λ k. refl) kind)
 
 -- ---- the whole
 
 three-long : (a b c : List ℕ) → length (a ++ b ++ c) ≡ length a + length b + length c
 three-long a b c = simp length-append
 
-pub report-length : (kind today : ℕ) (c : List ℕ) → Bytes c → length c ≤ largest → length (reportText kind today (length c) (parsed kind today c)) ≤ 512
+size-within : (kind n : ℕ) → n ≤ sizeMost (table kind) → n ≤ largest → n ≤ sizeOf kind
+size-within kind n h g =
+    elim (which (leb (sizeMost (table kind)) largest)) [
+      | inl e ↦ rw e h
+      | inr e ↦ rw e g
+    ]
+
+pub report-length : (kind today : ℕ) (c : List ℕ) → IsKind kind → length c ≤ largest → length (reportText kind today (length c) (parsed kind today c)) ≤ longestOf kind
 unfolding reportText
-report-length kind today c b h = go (parsed kind today c) refl
+report-length kind today c k h = go (parsed kind today c) (measured kind today c)
   where
-    go : (p : Parsed (List ℕ)) → parsed kind today c ≡ p → length (reportText kind today (length c) p) ≤ 512
-    go (values vs) e =
-        let a = exact kind today c b vs .0 e .allowed in
+    go : (p : Parsed (List ℕ)) → Measured kind c p → length (reportText kind today (length c) p) ≤ longestOf kind
+    go (values vs) m =
         omega (
           arith,
           three-long (cardPart kind (length c) today (verdictOf Fine)) (elementsPart (table kind) (shape vs)) (openPart (openOf kind vs)),
-          card-length kind (length c) today (verdictOf Fine) (omega arith) (omega arith) (omega arith),
-          elements-length kind today vs a,
-          open-length kind today vs a,
+          card-length kind (length c) today,
+          decimal-grows (length c) (sizeOf kind) (size-within kind (length c) (m .1) h),
+          elements-most (table kind) vs (m .0),
+          open-length kind vs (m .0),
+          as-computed kind k .0,
         )
-    go (fault f) e =
+    go (fault f) m =
         simp length-append
-        (omega (arith, card-length kind (length c) today (verdictOf (Broken f)) (omega arith) (number-small (f .fault)) (omega (arith, placed kind today c f (named kind today c b f e)))))
+        (omega (arith, card-most kind (length c) today (verdictOf (Broken f)) (omega arith) (number-small (f .fault)) (omega arith), as-computed kind k .1))
+
+pub never-over : (kind today : ℕ) (c : List ℕ) → IsKind kind → length c ≤ largest → length (reportText kind today (length c) (parsed kind today c)) ≤ reportRoom
+never-over kind today c k h = le-trans (report-length kind today c k h) (under-room kind)

@@ -1,4 +1,5 @@
--- "Report: 1, 2, 3, 4, then 8; broken rules are reported." "3: room too small: report under 512"; "8: report over 512 bytes".
+-- "Report: 1, 2, 3, 4 ..; broken rules are reported." "3: room too small: report under 512". 2026-12 takes out number 8: a report always fits such a room
+-- (`Longest.antt`), so what is not refused gets its whole text.
 use Prim.Native.Nat.{ℕ}
 use mathlib.Core.Bool.{cond}
 use mathlib.Core.List.{List}
@@ -8,19 +9,19 @@ use Rattle.dates.specs.Date.{isDate}
 use Rattle.kinds.specs.Tables.{isKind}
 use Rattle.verdicts.specs.Verdicts.{outright}
 use Rattle.verdicts.specs.Output.{Output, refusal, text}
-use Rattle.verdicts.specs.declared.Fault.the-variants.{UnknownKind, NoDate, SmallRoom, LargeContainer, LongReport}
+use Rattle.verdicts.specs.declared.Fault.the-variants.{UnknownKind, NoDate, SmallRoom, LargeContainer}
 use Rattle.container.specs.Container.{largest}
 use Rattle.container.specs.Reading.{parsed}
 use Rattle.report.specs.Report.{reportText}
 
-abbrev pub fitting : List ℕ → Output
-fitting t = cond (ltb 512 (length t)) (refusal (outright LongReport)) (text t)
+abbrev pub reportRoom : ℕ
+reportRoom = 512
 
 unfoldable pub reportOutput : ℕ → ℕ → List ℕ → ℕ → Output
 reportOutput kind today c room =
     cond (isKind kind)
     (cond (isDate today)
-    (cond (ltb room 512) (refusal (outright SmallRoom))
-    (cond (leb (length c) largest) (fitting (reportText kind today (length c) (parsed kind today c))) (refusal (outright LargeContainer))))
+    (cond (ltb room reportRoom) (refusal (outright SmallRoom))
+    (cond (leb (length c) largest) (text (reportText kind today (length c) (parsed kind today c))) (refusal (outright LargeContainer))))
     (refusal (outright NoDate)))
     (refusal (outright UnknownKind))

@@ -1,2 +1,3 @@
 pub mod Report
 pub mod Calls
+pub mod Longest

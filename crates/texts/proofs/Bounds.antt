@@ -1,11 +1,11 @@
--- How long the texts are: a number below 10 ^ k has at most k digits; and that hex digits and tags are bytes. Assumes nothing.
+-- How long the texts are: a number below 10 ^ k has at most k digits, and a larger one no fewer; and that hex digits and tags are bytes. Assumes nothing.
 use mathlib.Core.Path.{_≡_, refl, _∙_}
 use mathlib.Core.Bool.{cond}
 use mathlib.Core.List.{[], _∷_, _++_}
 use Prim.Native.Nat.{ℕ, zero, suc, _+_, _/_, _%_, _^_, _≤_, _<_}
 use native.Mathlib.Nat.{pow-suc}
 use native.Mathlib.Omega.{arith}
-use borrow.Author.Tests.{lt-ltb}
+use borrow.Author.Tests.{lt-ltb, le-ltb, ltb-false}
 use lib.Dec.{ltb}
 use lib.ListN.{length, length-append, length-map}
 use Rattle.laws.specs.Bytes.{Bytes}
@@ -27,6 +27,28 @@ pub decimal-length : (k n : ℕ) → 1 ≤ k → n < 10 ^ k → length (decimal 
 unfolding decimal
 decimal-length zero n g h = absurd (omega arith)
 decimal-length (suc k) n g h = decimalIn-length k n n h
+
+decimalIn-some : (f n : ℕ) → 1 ≤ length (decimalIn f n)
+decimalIn-some zero n = omega arith
+decimalIn-some (suc f) n =
+    test (ltb n 10) (λ b. 1 ≤ length (cond b (digit (n % 10) ∷ []) (decimalIn f (n / 10) ++ digit (n % 10) ∷ []))) (λ e. omega arith)
+    (λ e. rw length-append (omega arith))
+
+decimalIn-grows : (f g m n : ℕ) → m ≤ n → n ≤ g → length (decimalIn f m) ≤ length (decimalIn g n)
+decimalIn-grows zero g m n h l = decimalIn-some g n
+decimalIn-grows (suc f) zero m n h l = rw (lt-ltb m 10 (omega arith)) (omega arith)
+decimalIn-grows (suc f) (suc g) m n h l =
+    test (ltb m 10) (λ b. length (cond b (digit (m % 10) ∷ []) (decimalIn f (m / 10) ++ digit (m % 10) ∷ [])) ≤ length (decimalIn (suc g) n))
+    (λ e. decimalIn-some (suc g) n)
+    (λ e.
+    let k = ltb-false m 10 e in
+    rw (le-ltb n 10 (omega arith), length-append (decimalIn f (m / 10)) (digit (m % 10) ∷ []), length-append (decimalIn g (n / 10)) (digit (n % 10) ∷ []))
+    (omega (arith, decimalIn-grows f g (m / 10) (n / 10) (omega arith) (omega arith))))
+
+-- so the greatest number of some has the longest text
+pub decimal-grows : (m n : ℕ) → m ≤ n → length (decimal m) ≤ length (decimal n)
+unfolding decimal
+decimal-grows m n h = decimalIn-grows m n m n h (omega arith)
 
 pub fixed-length : (w n : ℕ) → length (fixed w n) ≡ w
 unfolding fixed

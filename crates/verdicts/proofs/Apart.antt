@@ -1,4 +1,4 @@
--- No two faults have one number, and none has 0: so a verdict tells its outcome. And no tag has the number that says none. Assumes nothing.
+-- No two faults have one number, and none has 0: so a verdict tells its outcome. None has 8 or 9 either. And no tag has the number that says none. Assumes nothing.
 use Prim.Native.Nat.{ℕ, _<_}
 use mathlib.Core.Path.{_≡_, refl, sym, ap, _∙_}
 use mathlib.Core.List.{List, [], _∷_}
@@ -6,7 +6,7 @@ use native.Mathlib.Omega.{arith}
 use native.Mathlib.Decide.{decLt}
 use lib.ListN.{getD, List·getD-eq-default}
 use Rattle.verdicts.specs.declared.Fault.{Fault}
-use Rattle.verdicts.specs.declared.Fault.the-variants.{UnknownKind, NoDate, SmallRoom, LargeContainer, TornSheet, NoElement, LongNumber, LongReport, OuterTag, LengthForm, Overrun, UnknownTag, TagOrder, MissingRow, ElementLength, BadFascn, BadUuid, BadDate, BadFixed, BadHeader, BadMinutiae, BadText, BadDer, TooDeep, BadFace, BadIris}
+use Rattle.verdicts.specs.declared.Fault.the-variants.{UnknownKind, NoDate, SmallRoom, LargeContainer, TornSheet, NoElement, LongNumber, OuterTag, LengthForm, Overrun, UnknownTag, TagOrder, MissingRow, ElementLength, BadFascn, BadUuid, BadDate, BadFixed, BadHeader, BadMinutiae, BadText, BadDer, TooDeep, BadFace, BadIris}
 use Rattle.verdicts.specs.declared.Tag.the-variants.{NoTag, Of}
 use Rattle.verdicts.specs.declared.Finding.{Finding}
 use Rattle.verdicts.specs.declared.Outcome.{Outcome}
@@ -17,7 +17,7 @@ use Rattle.verdicts.specs.Verdicts.{numberOf, tagNumber, outright, verdi
 -- the outcomes by their numbers, each of the whole
 byNumber : List Outcome
 byNumber =
-    Fine ∷ b UnknownKind ∷ b NoDate ∷ b SmallRoom ∷ b LargeContainer ∷ b TornSheet ∷ b NoElement ∷ b LongNumber ∷ b LongReport ∷ Fine ∷ b OuterTag
+    Fine ∷ b UnknownKind ∷ b NoDate ∷ b SmallRoom ∷ b LargeContainer ∷ b TornSheet ∷ b NoElement ∷ b LongNumber ∷ Fine ∷ Fine ∷ b OuterTag
     ∷ b LengthForm ∷ b Overrun ∷ b UnknownTag ∷ b TagOrder ∷ b MissingRow ∷ b ElementLength ∷ b BadFascn ∷ b BadUuid ∷ b BadDate ∷ b BadFixed
     ∷ b BadHeader ∷ b BadMinutiae ∷ b BadText ∷ b BadDer ∷ b TooDeep ∷ b BadFace ∷ b BadIris ∷ []
   where
@@ -36,7 +36,6 @@ stands f =
       | TornSheet ↦ refl
       | NoElement ↦ refl
       | LongNumber ↦ refl
-      | LongReport ↦ refl
       | OuterTag ↦ refl
       | LengthForm ↦ refl
       | Overrun ↦ refl
@@ -57,12 +56,21 @@ stands f =
       | BadIris ↦ refl
     ]
 
-pub never-zero : (f : Fault) → numberOf f ≡ 0 → ⊥
-unfolding byNumber
-never-zero f e =
-    let p : Broken (outright f) ≡ Fine = sym (stands f) ∙ ap (λ (n : ℕ). getD byNumber n Fine) e in
+-- a number at which no fault stands is that of none
+unused : (n : ℕ) → getD byNumber n Fine ≡ Fine → (f : Fault) → numberOf f ≡ n → ⊥
+unused n h f e =
+    let p : Broken (outright f) ≡ Fine = sym (stands f) ∙ ap (λ (n : ℕ). getD byNumber n Fine) e ∙ h in
     let z : _≡_ {A = ℕ} 0 1 = cc in
     omega arith
+
+pub never-zero : (f : Fault) → numberOf f ≡ 0 → ⊥
+unfolding byNumber
+never-zero f e = unused 0 refl f e
+
+-- 2026-12: "8 is withdrawn and not used again", and 9 never was
+pub withdrawn : (f : Fault) → (numberOf f ≡ 8 → ⊥) × (numberOf f ≡ 9 → ⊥)
+unfolding byNumber
+withdrawn f = (unused 8 refl f, unused 9 refl f)
 
 pub one-fault : (f g : Fault) → numberOf f ≡ numberOf g → f ≡ g
 one-fault f g e =
@@ -76,10 +84,7 @@ unfolding byNumber
 number-small f =
     elim (decLt (numberOf f) 28) [
       | yes h ↦ omega arith
-      | no h ↦
-          let p : Fine ≡ Broken (outright f) = sym (List·getD-eq-default byNumber Fine {n = numberOf f} (omega arith)) ∙ stands f in
-          let z : _≡_ {A = ℕ} 0 1 = cc in
-          absurd (omega arith)
+      | no h ↦ absurd (unused (numberOf f) (List·getD-eq-default byNumber Fine {n = numberOf f} (omega arith)) f refl)
     ]
 
 -- two outcomes with one verdict are the same

@@ -1,7 +1,7 @@
--- 01, "Numbers", and requests 2026-04 and 2026-05: the number of each fault; and the verdict, a number, a place and, since 2026-02, the tag of the element there.
+-- 01, "Numbers", and requests 2026-04, 2026-05, 2026-06 and 2026-12: the number of each fault; and the verdict, a number, a place and, since 2026-02, the tag of the element there.
 use Prim.Native.Nat.{ℕ}
 use Rattle.verdicts.specs.declared.Fault.{Fault}
-use Rattle.verdicts.specs.declared.Fault.the-variants.{UnknownKind, NoDate, SmallRoom, LargeContainer, TornSheet, NoElement, LongNumber, LongReport, OuterTag, LengthForm, Overrun, UnknownTag, TagOrder, MissingRow, ElementLength, BadFascn, BadUuid, BadDate, BadFixed, BadHeader, BadMinutiae, BadText, BadDer, TooDeep, BadFace, BadIris}
+use Rattle.verdicts.specs.declared.Fault.the-variants.{UnknownKind, NoDate, SmallRoom, LargeContainer, TornSheet, NoElement, LongNumber, OuterTag, LengthForm, Overrun, UnknownTag, TagOrder, MissingRow, ElementLength, BadFascn, BadUuid, BadDate, BadFixed, BadHeader, BadMinutiae, BadText, BadDer, TooDeep, BadFace, BadIris}
 use Rattle.verdicts.specs.declared.Tag.{Tag}
 use Rattle.verdicts.specs.declared.Tag.the-variants.{NoTag, Of}
 use Rattle.verdicts.specs.declared.Finding.{Finding}
@@ -13,6 +13,7 @@ use Rattle.verdicts.specs.declared.Verdict.{Verdict}
 use Rattle.laws.specs.Format.{Judged, kept, breaks}
 use mathlib.Core.Bool.{Bool, cond}
 
+-- 2026-12: "8 is withdrawn and not used again"; it was "report over 512 bytes". 9 never was a number, and is not used either
 abbrev pub numberOf : Fault → ℕ
 numberOf UnknownKind = 1  -- kind not 1 to 12
 numberOf NoDate = 2  -- today is no date
@@ -21,7 +22,6 @@ numberOf LargeContainer = 4  -- container over 32,768 bytes, given or to be writ
 numberOf TornSheet = 5  -- sheet cut short or with bytes left over
 numberOf NoElement = 6  -- view: element absent, or tag not of the kind
 numberOf LongNumber = 7  -- FASC-N encoding: a number has too many digits
-numberOf LongReport = 8  -- report over 512 bytes
 numberOf OuterTag = 10  -- outer tag missing or wrong
 numberOf LengthForm = 11  -- length cut short or not in the permitted form
 numberOf Overrun = 12  -- value runs past its enclosure, or outer end is not the container's end

@@ -13,7 +13,6 @@ pub enum Fault {
     TornSheet,
     NoElement,
     LongNumber,
-    LongReport,
     OuterTag,
     LengthForm,
     Overrun,
@@ -76,7 +75,7 @@ pub struct Done {
     pub length: u64,
 }
 
-// The fault's number in 01's table.
+// The fault's number in 01's table. 8 is withdrawn (2026-12) and 9 never was one: neither is used again.
 pub fn number_of(f: Fault) -> u64
     ensures { λ r. ⌜ r ≡ numberOf f ⌝ }
 {
@@ -88,7 +87,6 @@ pub fn number_of(f: Fault) -> u64
         Fault::TornSheet => 5,
         Fault::NoElement => 6,
         Fault::LongNumber => 7,
-        Fault::LongReport => 8,
         Fault::OuterTag => 10,
         Fault::LengthForm => 11,
         Fault::Overrun => 12,

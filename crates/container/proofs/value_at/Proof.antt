@@ -7,8 +7,6 @@ use native.Mathlib.Omega.{arith}
 use lib.ListN.{length, drop}
 use borrow.Author.Needs.{needs}
 use borrow.Author.Tests.{not-true, not-false}
-use Rattle.laws.specs.Bytes.{Bytes}
-use Rattle.laws.proofs.Bases.{below-of}
 use Rattle.lengths.specs.Length.{lengthAt}
 use Rattle.lengths.specs.declared.Length.the-variants.{Is}
 use Rattle.kinds.specs.Tables.{permits}
@@ -17,17 +15,14 @@ use Rattle.container.proofs.Lengthy.{no-length, inside, over, wrong-siz
 use Rattle.container.proofs.value_at.Statement.{statement}
 use Rattle.container.proofs.value_at.Tie as tie
 
--- the bytes, and the length that was read
-bytes : (k : tie.After-known-told) → Bytes (k .before .before .before .before .before .args .c .now)
-bytes k = below-of 256 (k .before .before .before .before .before .args .c .now) (λ i. k .before .before .before .before .shared-slice-known .given i .fits)
-
+-- the length that was read
 told : (k : tie.After-known-told) → let a = k .before .before .before .before .before .args in Is (k .before .n .given .0 .0) (k .before .n .given .0 .1 .0) ≡ lengthAt (a .at) (drop (a .at) (a .c .now))
 told k = sym (k .before .n .given .1) ∙ k .before .before .before .read-length .ensures
 
 within : (k : tie.After-known-told) → k .before .n .given .0 .1 .0 ≤ length (k .before .before .before .before .before .args .c .now)
 within k =
     let a = k .before .before .before .before .before .args in
-    inside (a .c .now) (a .at) (a .least) (a .most) (a .empty) (a .rule) (a .today) (bytes k) (told k)
+    inside (a .c .now) (a .at) (a .least) (a .most) (a .empty) (a .rule) (a .today) (told k)
 
 allowed : (c : tie.Else2) → let k = c .before .before .before in let a = k .before .before .before .before .before .args in permits (a .least) (a .most) (a .empty) (k .before .n .given .0 .0) ≡ true
 allowed c = sym (c .before .permitted .ensures) ∙ not-false _ (c .if2 .left)
@@ -36,13 +31,13 @@ returns : tie.Need-returns
 returns c =
     let k = c .before in
     let a = k .before .before .before .before .before .args in
-    over (a .c .now) (a .at) (a .least) (a .most) (a .empty) (a .rule) (a .today) (bytes k) (told k) (c .if1 .taken)
+    over (a .c .now) (a .at) (a .least) (a .most) (a .empty) (a .rule) (a .today) (told k) (c .if1 .taken)
 
 returns-2 : tie.Need-returns-2
 returns-2 c =
     let k = c .before .before .before in
     let a = k .before .before .before .before .before .args in
-    wrong-size (a .c .now) (a .at) (a .least) (a .most) (a .empty) (a .rule) (a .today) (bytes k) (told k) (c .before .before .if1 .left)
+    wrong-size (a .c .now) (a .at) (a .least) (a .most) (a .empty) (a .rule) (a .today) (told k) (c .before .before .if1 .left)
     (sym (c .before .permitted .ensures) ∙ not-true _ (c .if2 .taken))
 
 returns-3 : tie.Need-returns-3
@@ -57,7 +52,7 @@ returns-4 c =
     let p = c .before .before in
     let k = p .before .before .before in
     let a = k .before .before .before .before .before .args in
-    ends (a .c .now) (a .at) (a .least) (a .most) (a .empty) (a .rule) (a .today) (bytes k) (told k) (p .before .before .if1 .left) (allowed p) (rw (c .enum-told2 .given .1))
+    ends (a .c .now) (a .at) (a .least) (a .most) (a .empty) (a .rule) (a .today) (told k) (p .before .before .if1 .left) (allowed p) (rw (c .enum-told2 .given .1))
 
 returns-5 : tie.Need-returns-5
 returns-5 c =
@@ -65,7 +60,7 @@ returns-5 c =
     let p = j .before .before .before in
     let k = p .before .before .before in
     let a = k .before .before .before .before .before .args in
-    ends (a .c .now) (a .at) (a .least) (a .most) (a .empty) (a .rule) (a .today) (bytes k) (told k) (p .before .before .if1 .left) (allowed p)
+    ends (a .c .now) (a .at) (a .least) (a .most) (a .empty) (a .rule) (a .today) (told k) (p .before .before .if1 .left) (allowed p)
     (sym (c .enum-told3 .given .1) ∙ rw add-sub-cancel-left at (j .judge .ensures))
 
 returns-6 : tie.Need-returns-6
@@ -74,7 +69,7 @@ returns-6 c =
     let p = j .before .before .before in
     let k = p .before .before .before in
     let a = k .before .before .before .before .before .args in
-    broke (a .c .now) (a .at) (a .least) (a .most) (a .empty) (a .rule) (a .today) (bytes k) (told k) (p .before .before .if1 .left) (allowed p)
+    broke (a .c .now) (a .at) (a .least) (a .most) (a .empty) (a .rule) (a .today) (told k) (p .before .before .if1 .left) (allowed p)
     (sym (c .before .f .given .1) ∙ rw add-sub-cancel-left at (j .judge .ensures))
 
 pub value-at-spec : {M : Type 1} → statement M

@@ -4,8 +4,6 @@ use mathlib.Core.Path.{_≡_, sym, _∙_}
 use native.Mathlib.Omega.{arith}
 use lib.ListN.{length, getD, drop}
 use borrow.Author.Needs.{needs}
-use Rattle.laws.specs.Bytes.{Bytes}
-use Rattle.laws.proofs.Bases.{below-of}
 use Rattle.lengths.specs.Length.{lengthAt}
 use Rattle.lengths.specs.declared.Length.the-variants.{Is}
 use Rattle.container.specs.Container.{outerTag}
@@ -18,16 +16,13 @@ use Rattle.container.proofs.whole.Tie as tie
 tagged : (c : tie.Else2) → let a = c .before .before .before .before .before .args in getD (a .c .now) 0 0 ≡ outerTag (a .kind)
 tagged c = c .if2 .left ∙ c .before .outer-tag .ensures
 
-bytes : (k : tie.After-known-told) → Bytes (k .before .before .before .before .before .before .before .before .before .args .c .now)
-bytes k = below-of 256 (k .before .before .before .before .before .before .before .before .before .args .c .now) (λ i. k .before .before .before .before .before .before .before .before .shared-slice-known .given i .fits)
-
 told : (k : tie.After-known-told) → Is (k .before .n .given .0 .0) (k .before .n .given .0 .1 .0) ≡ lengthAt 1 (drop 1 (k .before .before .before .before .before .before .before .before .before .args .c .now))
 told k = sym (k .before .n .given .1) ∙ k .before .before .before .read-length .ensures
 
 within : (k : tie.After-known-told) → k .before .n .given .0 .1 .0 ≤ length (k .before .before .before .before .before .before .before .before .before .args .c .now)
 within k =
     let z = k .before .before .before .before .before .before .before .if1 .left in
-    within-outer (k .before .before .before .before .before .before .before .before .before .args .c .now) (bytes k) z (told k)
+    within-outer (k .before .before .before .before .before .before .before .before .before .args .c .now) z (told k)
 
 returns : tie.Need-returns
 returns c = (c .outright .ensures ∙ no-bytes _ _ (c .before .before .before .args .c .now) (c .before .if1 .taken), rw (c .outright .ensures) (inside-first _))
@@ -44,7 +39,7 @@ returns-3 c =
     let k = t .before in
     let e = k .before .before .before .before in
     let a = e .before .before .before .before .before .args in (
-      c .outright4 .ensures ∙ off-end (a .kind) (a .today) (a .c .now) (bytes k) (e .before .before .before .if1 .left) (tagged e) (told k) (omega (arith, t .if3 .taken)),
+      c .outright4 .ensures ∙ off-end (a .kind) (a .today) (a .c .now) (e .before .before .before .if1 .left) (tagged e) (told k) (omega (arith, t .if3 .taken)),
       rw (c .outright4 .ensures) (inside-first _),
     )
 
@@ -62,7 +57,7 @@ returns-5 c =
     let k = c .before .before in
     let e = k .before .before .before .before in
     let a = e .before .before .before .before .before .args in (
-      c .elements .ensures .0 ∙ fits-outer (a .kind) (a .today) (a .c .now) (bytes k) (e .before .before .before .if1 .left) (tagged e) (told k) (omega (arith, c .before .if3 .left)),
+      c .elements .ensures .0 ∙ fits-outer (a .kind) (a .today) (a .c .now) (e .before .before .before .if1 .left) (tagged e) (told k) (omega (arith, c .before .if3 .left)),
       c .elements .ensures .1,
     )
 

@@ -6,20 +6,18 @@ use native.Mathlib.Nat.{le-trans}
 use native.Mathlib.Omega.{arith}
 use lib.ListN.{length}
 use borrow.Author.Tests.{not-true, not-false, ltb-true, ltb-false}
-use Rattle.laws.specs.Bytes.{Bytes}
-use Rattle.laws.proofs.Bases.{below-of}
 use Rattle.laws.proofs.Rooms.{put-filled}
 use Rattle.dates.specs.Date.{isDate}
 use Rattle.kinds.specs.Tables.{isKind}
 use Rattle.verdicts.proofs.Outputs.{refuses, gives}
 use Rattle.container.specs.Container.{largest}
-use Rattle.report.proofs.Answers.{report-1, report-2, report-3, report-4, report-0, short}
+use Rattle.container.proofs.Promise.{kind-exact}
+use Rattle.report.specs.Calls.{reportRoom}
+use Rattle.report.proofs.Answers.{report-1, report-2, report-3, report-4, report-0}
+use Rattle.report.proofs.Bound.{never-over}
 use borrow.Author.Needs.{needs}
 use Rattle.report.proofs.report.Statement.{statement}
 use Rattle.report.proofs.report.Tie as tie
-
-bytes : (x : tie.After-shared-slice-known) → Bytes (x .before .args .container .now)
-bytes x = below-of 256 (x .before .args .container .now) (λ i. x .shared-slice-known .given i .fits)
 
 -- past the first test, and past the second
 a-kind : (e : tie.Else1) → isKind (e .before .before .before .before .before .before .before .before .args .kind) ≡ true
@@ -56,7 +54,7 @@ returns-3 c =
     let e = f .before .before in
     let z = e .before .before .before .before in
     let a = z .before .before .before .before .args in
-    let l : length (a .room .now) < 512 = omega (arith, t .if3 .taken) in
+    let l : length (a .room .now) < reportRoom = omega (arith, t .if3 .taken) in
     refuses (a .room .now) (report-3 (a .kind) (a .today) (a .container .now) _ (a-kind e) (a-date f) l) (z .clear .ensures) (rw (c .before .outright3 .ensures) at (c .refused3 .ensures))
 
 returns-4 : tie.Need-returns-4
@@ -67,37 +65,21 @@ returns-4 c =
     let e = f .before .before in
     let z = e .before .before .before .before in
     let a = z .before .before .before .before .args in
-    let l : 512 ≤ length (a .room .now) = omega (arith, g .if3 .left) in
+    let l : reportRoom ≤ length (a .room .now) = omega (arith, g .if3 .left) in
     refuses (a .room .now) (report-4 (a .kind) (a .today) (a .container .now) _ (a-kind e) (a-date f) l (ltb-true _ _ (sym (t .before .too-large .ensures) ∙ t .if4 .taken))) (z .clear .ensures) (rw (c .before .outright4 .ensures) at (c .refused4 .ensures))
 
 returns-5 : tie.Need-returns-5
 returns-5 c =
-    let t = c .before .before .before .before .before .before in
-    let p = t .before .before .before in
+    let p = c .before .before .before in
     let s = p .before .before in
     let g = s .before .before in
     let f = g .before in
     let e = f .before .before in
     let z = e .before .before .before .before in
-    let x = z .before .before .before in
-    let a = x .before .args in
-    let l : 512 ≤ length (a .room .now) = omega (arith, g .if3 .left) in
-    let h = short (a .kind) (a .today) (a .container .now) (length (a .room .now)) (a-kind e) (a-date f) l (small s) (bytes x) in
-    absurd (omega (arith, put-filled (z .clear .ensures) (le-trans h l) (p .put-report .ensures) .1, h, t .if5 .taken))
-
-returns-6 : tie.Need-returns-6
-returns-6 c =
-    let p = c .before .before .before .before in
-    let s = p .before .before in
-    let g = s .before .before in
-    let f = g .before in
-    let e = f .before .before in
-    let z = e .before .before .before .before in
-    let x = z .before .before .before in
-    let a = x .before .args in
-    let l : 512 ≤ length (a .room .now) = omega (arith, g .if3 .left) in
-    let h = short (a .kind) (a .today) (a .container .now) (length (a .room .now)) (a-kind e) (a-date f) l (small s) (bytes x) in
-    gives (a .room .now) (report-0 (a .kind) (a .today) (a .container .now) _ (a-kind e) (a-date f) l (small s) (bytes x)) (z .clear .ensures) (le-trans h l) (p .put-report .ensures) (c .wrote .ensures)
+    let a = z .before .before .before .before .args in
+    let l : reportRoom ≤ length (a .room .now) = omega (arith, g .if3 .left) in
+    let h = never-over (a .kind) (a .today) (a .container .now) (kind-exact (a .kind) .0 (a-kind e)) (small s) in
+    gives (a .room .now) (report-0 (a .kind) (a .today) (a .container .now) _ (a-kind e) (a-date f) l (small s)) (z .clear .ensures) (le-trans h l) (p .put-report .ensures) (c .wrote .ensures)
 
 pub report-spec : {M : Type 1} → statement M
 report-spec =
@@ -125,10 +107,5 @@ report-spec =
     returns-4
     (λ c κs. search needs)
     (λ c κs. search needs)
-    (λ c κs. search needs)
-    (λ c κs. search needs)
     (λ c. search needs)
-    returns-5
-    (λ c κs. search needs)
-    (λ c. search needs)
-    returns-6)
+    returns-5)
