@@ -11,6 +11,7 @@ use second::card::{all_kinds, kind_of, Rule, CONFORMS};
 use second::faces::{facial, Image};
 use second::generate::{certificate_kinds, endless_row, Card, Form, Forms, LONGEST_FORM};
 use second::irises::{iris_record, pair_of};
+use second::report::LONGEST;
 use second::samples::{face, iris};
 use second::trees::{certificate_of_pairs, Tree};
 use second::values::IRIS_MOST_BYTES;
@@ -303,7 +304,7 @@ fn stretched(kind: u64, values: &Values, total: usize) -> Vec<u8> {
     container_of(kind, &values)
 }
 
-/// Every row there and as long as it may be.
+/// Every row there and as long as it may be. So the report on it is the longest that a container of the kind has.
 fn largest(kind: u64) -> Vec<u8> {
     let mut values = values_of(kind, &sample(kind));
     let rows = kind_of(kind).unwrap().rows;
@@ -317,10 +318,13 @@ fn largest(kind: u64) -> Vec<u8> {
             _ => (),
         }
     }
-    match endless_row(kind) {
+    let container = match endless_row(kind) {
         Some(_) => stretched(kind, &values, LARGEST),
         None => container_of(kind, &values),
-    }
+    };
+    let (_, length) = second::report(kind, TODAY, &container, &mut [0; second::REPORT_MAX]);
+    assert!(length as usize == LONGEST[kind as usize - 1], "kind {}: not the longest report: {} bytes", kind, length);
+    container
 }
 
 /// The fingers' value with so many minutiae in each view, and one byte of signature.

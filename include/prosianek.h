@@ -29,7 +29,7 @@ extern "C" {
 #endif
 
 enum {
-    // The smallest room for a report. No report is longer.
+    // The smallest room for a report, which holds every one: the longest there is has 171 bytes.
     PROSIANEK_REPORT_ROOM = 512,
     // The bytes of a FASC-N.
     PROSIANEK_FASCN_BYTES = 25,
@@ -68,7 +68,7 @@ enum prosianek_number {
     PROSIANEK_TORN_SHEET = 5,       // the sheet is cut short or has bytes left over
     PROSIANEK_NO_ELEMENT = 6,       // view: the element is absent, or the tag is not of the kind
     PROSIANEK_LONG_NUMBER = 7,      // FASC-N encoding: a number has too many digits
-    PROSIANEK_LONG_REPORT = 8,      // a report over 512 bytes: it is proved that there is none
+    // 8 is withdrawn, and 9 never was given: neither is used again
     PROSIANEK_OUTER_TAG = 10,       // the outer tag is missing or wrong
     PROSIANEK_LENGTH_FORM = 11,     // a length is cut short or in no permitted form
     PROSIANEK_OVERRUN = 12,         // a value runs past its enclosure, or the outer end is not the container's end
@@ -94,7 +94,7 @@ enum prosianek_number {
 //
 // A verdict is a number, a place and a tag. The tag says which element is meant, as a number such as 0x30, or 0x5F2F for the tag
 // of two bytes; where none is meant it is PROSIANEK_NO_TAG. By the verdict's number:
-//   - 0, and 1 to 8: no tag;
+//   - 0, and 1 to 7: no tag;
 //   - 10, and 11 and 12 of the outer length: no tag;
 //   - 15 of a container: the tag found in the place of the missing one; no tag at the container's end, where nothing is found;
 //   - 13: the byte at the place, whatever the card has there, such as 0x00, or 0x5F where no 2F follows;

@@ -368,6 +368,11 @@ int main(void) {
     view("view, 32,769 bytes", PROSIANEK_CHUID, TODAY, too_large, sizeof too_large, 0x30, PROSIANEK_LARGE_CONTAINER);
     report("report, 32,769 bytes", PROSIANEK_CHUID, TODAY, too_large, sizeof too_large, 512, PROSIANEK_LARGE_CONTAINER);
 
+    // A report's refusals in their order: the kind, the date, the room, the container.
+    report("report, all four wrong", 13, 0, too_large, sizeof too_large, 511, PROSIANEK_UNKNOWN_KIND);
+    report("report, all but the kind wrong", PROSIANEK_CHUID, 0, too_large, sizeof too_large, 511, PROSIANEK_NO_DATE);
+    report("report, room and size wrong", PROSIANEK_CHUID, TODAY, too_large, sizeof too_large, 511, PROSIANEK_SMALL_ROOM);
+
     write("write, a sheet cut short", PROSIANEK_CHUID, TODAY, sheet, SHEET_BYTES - 1, 100, PROSIANEK_TORN_SHEET);
     write("write, a byte left over", PROSIANEK_CHUID, TODAY, sheet, SHEET_BYTES + 1, 100, PROSIANEK_TORN_SHEET);
     write("write, no sheet", PROSIANEK_CHUID, TODAY, sheet, 0, 100, PROSIANEK_TORN_SHEET);

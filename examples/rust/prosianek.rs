@@ -19,7 +19,7 @@ pub const KEYMGMT: u64 = 10;
 pub const CARDAUTH: u64 = 11;
 pub const IRIS: u64 = 12;
 
-/// The smallest room for a report. No report is longer.
+/// The smallest room for a report, which holds every one: the longest there is has 171 bytes.
 pub const REPORT_ROOM: usize = 512;
 /// The bytes of a FASC-N.
 pub const FASCN_BYTES: usize = 25;

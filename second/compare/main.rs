@@ -67,7 +67,8 @@ impl Comparison {
     }
 }
 
-/// Compares the calls, says how many, and gives whether there was no difference and every number was answered.
+/// Compares the calls, says how many, and gives whether there was no difference and every number was answered. One that is not
+/// used counts as a difference, on whichever side it is.
 fn all_same(seed: u64, count: u64) -> bool {
     let mut comparison = Comparison { trial: Trial::new(!seed), tally: Tally::default(), calls: 0, differences: 0 };
     comparison.compare_named();

@@ -1,13 +1,14 @@
 //! The comparison is tried itself: faults are planted in calls of every sort, one at a time, and each has to be seen at
 //! the byte where it was planted. So are the tags that a mistaken program would name, in calls on every fault of a container or
 //! a sheet, the places that one would give which takes every length for one in fewest bytes, and the numbers of one that judges a
-//! printed date, a facial or an iris record by another rule.
+//! printed date, a facial or an iris record by another rule, or that still answers 8 to a report. 8 and 9 are planted on both
+//! sides too, where nothing differs.
 
 use crate::trial::{call_text, native, Fault, Sort, Stretch, Trial, Wrong};
 use second::batch::{Answer, Call, Record};
 use second::card::{kind_of, length_at, walk};
 use second::generate::{fewest, Inputs, Rng};
-use second::{dates, faces, faults, irises, lengths, tag_number, NO_TAG};
+use second::{dates, faces, faults, irises, lengths, longest, tag_number, NO_TAG};
 use std::collections::BTreeMap;
 use std::ops::Range;
 
@@ -67,8 +68,17 @@ fn faults_before(stretch: &Stretch) -> Vec<Planted> {
     }
 }
 
+/// The numbers that no call answers, on both sides.
+fn faults_of_both(stretch: &Stretch) -> Vec<Planted> {
+    let both = |how, number| (how, Fault::Shared(stretch.range.clone(), number), Wrong::Unused(stretch.range.start));
+    match stretch.name {
+        "number" | "short" => vec![both("8 on both sides", 8), both("9 on both sides", 9)],
+        _ => Vec::new(),
+    }
+}
+
 /// The mistakes that are made in a number that is lent, each with the name of that.
-const MISTAKES: [(&str, &str); 21] = [
+const MISTAKES: [(&str, &str); 28] = [
     ("number", "16 for no date"),
     ("number", "23 for no date"),
     ("number", "19 for a length"),
@@ -78,6 +88,13 @@ const MISTAKES: [(&str, &str); 21] = [
     ("number", "26 for no record"),
     ("number", "26 for a header"),
     ("number", "27 for a header"),
+    ("number", "8 for a report"),
+    ("number", "8 for a small room"),
+    ("number", "8 for a large container"),
+    ("number", "8 on both sides"),
+    ("number", "9 on both sides"),
+    ("short", "8 on both sides"),
+    ("short", "9 on both sides"),
     ("tag", "0 for none"),
     ("tag", "none for 00"),
     ("tag", "none for a tag"),
@@ -167,10 +184,24 @@ fn mistaken_places(record: &Record, expected: &Answer) -> Vec<(&'static str, u64
     mistaken.into_iter().zip(both).filter(|(mistaken, right)| mistaken != right).map(|(mistaken, _)| mistaken).collect()
 }
 
+/// The number of a program that still has the one which was withdrawn: for a report that is written, for a room that is too
+/// small and for a container that is too large.
+fn withdrawn_number(expected: &Answer) -> Vec<(&'static str, u64)> {
+    match expected.number {
+        0 => vec![("8 for a report", 8)],
+        3 => vec![("8 for a small room", 8)],
+        4 => vec![("8 for a large container", 8)],
+        _ => Vec::new(),
+    }
+}
+
 /// The numbers of a program that asks for eight characters of a printed date, takes it for a text, or asks for its length later;
 /// and of one that does not look at a facial or an iris record, takes it for a part of the header or for that of another kind, or asks
 /// for it first.
 fn mistaken_numbers(record: &Record, expected: &Answer) -> Vec<(&'static str, u64)> {
+    if record.call == Call::Report {
+        return withdrawn_number(expected);
+    }
     match (record.kind, expected.tag, expected.number) {
         (4, Some(0x04), 19) => vec![("16 for no date", 16), ("23 for no date", 23)],
         (4, Some(0x04), 16) => vec![("19 for a length", 19)],
@@ -222,7 +253,9 @@ impl Trying {
         self.trial.run(record, &expected, &Fault::None)?;
         assert!(guarded(self.trial.stretches()), "a guard is missing: {}", call_text(record));
         for stretch in self.trial.stretches().to_vec().iter().filter(|stretch| !stretch.range.is_empty()) {
-            for planted in [faults_after(stretch, &mut self.rng), faults_before(stretch)].concat() {
+            for planted in
+                [faults_after(stretch, &mut self.rng), faults_before(stretch), faults_of_both(stretch)].concat()
+            {
                 self.expect_seen(record, &expected, stretch.name, planted);
             }
         }
@@ -283,7 +316,7 @@ impl Trying {
             println!("  {}: {}", what, texts.join(" "));
         }
         let mistaken = |name, how| self.planted.get(&(how, name)).copied().unwrap_or_default();
-        for which in ["number", "tag", "place", "offset"] {
+        for which in ["number", "short", "tag", "place", "offset"] {
             let here = MISTAKES.iter().filter(|(name, _)| *name == which);
             let texts: Vec<String> = here.map(|&(name, how)| format!("{}: {}", how, mistaken(name, how))).collect();
             println!("  another {}, {}", which, texts.join(", "));
@@ -298,8 +331,8 @@ impl Trying {
 /// Plants the faults and gives whether all were seen.
 pub fn all_seen(seed: u64) -> bool {
     let mut trying = Trying { trial: Trial::new(!seed), rng: Rng::new(seed), planted: BTreeMap::new(), unseen: 0 };
-    let with_faults =
-        [dates::records(), faces::records(), irises::records(), faults::records(), lengths::records()].concat();
+    let edges = [dates::records, faces::records, irises::records, faults::records, lengths::records, longest::records];
+    let with_faults: Vec<Record> = edges.iter().flat_map(|records| records()).collect();
     let made = calls(seed);
     let planting = made.iter().map(|record| (record, true)).chain(with_faults.iter().map(|record| (record, false)));
     for (record, everywhere) in planting {
@@ -310,7 +343,8 @@ pub fn all_seen(seed: u64) -> bool {
         }
     }
     println!(
-        "faults planted in {} calls of every sort, and mistakes in {} on dates, faces, irises, faults and longer forms, one at a time:",
+        "faults planted in {} calls of every sort, and mistakes in {} on dates, faces, irises, faults, longer forms and long \
+         reports, one at a time:",
         made.len(),
         with_faults.len()
     );

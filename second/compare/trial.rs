@@ -7,7 +7,7 @@
 use crate::prosianek::*;
 use second::batch::{Answer, Call, Record, BYTES_MAX, ROOM_MAX};
 use second::generate::Rng;
-use second::tag_number;
+use second::{number, tag_number};
 use std::ops::Range;
 
 /// A guard has this many bytes, or a few more.
@@ -45,6 +45,8 @@ pub enum Wrong {
     Filling(usize),
     /// After the call the memory is not like the image.
     Answer(usize),
+    /// Both sides answer alike, and a number that none may answer: one that is withdrawn or was never given.
+    Unused(usize),
 }
 
 /// A fault that is planted in order to be seen.
@@ -63,6 +65,8 @@ pub enum Fault {
     Mistaken(Range<usize>, u64),
     /// Here another byte is expected than the right one: so what makes an answer of what is expected shows.
     Expected(usize),
+    /// This number is expected here, and is there after the call: so both sides answer it.
+    Shared(Range<usize>, u64),
 }
 
 /// Numbers as they stand in memory.
@@ -124,7 +128,8 @@ impl Trial {
         self.call(record);
         self.plant_after(fault);
         self.fetch_part();
-        self.look_after()
+        self.look_after()?;
+        self.look_for_unused()
     }
 
     /// The stretches of the last call. They depend on the call and on the expected answer only.
@@ -268,11 +273,23 @@ impl Trial {
         }
     }
 
+    /// A number that is not used is wrong on either side. Where the two differ it is told already: here both have it.
+    fn look_for_unused(&self) -> Result<(), Wrong> {
+        let answers = self.stretches.iter().filter(|stretch| matches!(stretch.name, "number" | "short"));
+        for Stretch { name, range, .. } in answers {
+            if !number::is_used(self.number_at(name)) {
+                return Err(Wrong::Unused(range.start));
+            }
+        }
+        Ok(())
+    }
+
     /// What is wrong, in words, with the call and both answers.
     pub fn tell(&self, record: &Record, wrong: Wrong) -> String {
         let (what, at) = match wrong {
             Wrong::Filling(at) => ("wrong before the call, by the comparison's own fault", at),
             Wrong::Answer(at) => ("different", at),
+            Wrong::Unused(at) => ("a number that is not used, by both", at),
         };
         let which = self.stretches.iter().position(|stretch| stretch.range.contains(&at)).expect("a byte in use");
         let before = match self.stretches.get(which + 1) {
@@ -311,8 +328,10 @@ impl Trial {
     // Planted faults
 
     fn plant_expected(&mut self, fault: &Fault) {
-        if let Fault::Expected(at) = *fault {
-            self.image[at] ^= other(&mut self.rng, 0);
+        match fault.clone() {
+            Fault::Expected(at) => self.image[at] ^= other(&mut self.rng, 0),
+            Fault::Shared(range, number) => self.image[range].copy_from_slice(&native(&[number])),
+            _ => (),
         }
     }
 
@@ -331,7 +350,9 @@ impl Trial {
     fn plant_after(&mut self, fault: &Fault) {
         match fault.clone() {
             Fault::Changed(at) => self.memory.0[at] ^= other(&mut self.rng, 0),
-            Fault::Mistaken(range, number) => self.memory.0[range].copy_from_slice(&native(&[number])),
+            Fault::Mistaken(range, number) | Fault::Shared(range, number) => {
+                self.memory.0[range].copy_from_slice(&native(&[number]))
+            }
             _ => (),
         }
     }

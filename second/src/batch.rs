@@ -129,10 +129,18 @@ impl Tally {
         }
     }
 
-    /// The numbers that were never answered; 8 cannot occur.
+    /// The numbers of the table that were never answered.
     pub fn never(&self) -> Vec<u64> {
-        let answered = |number: &u64| self.0.values().any(|numbers| numbers.contains_key(number));
-        (0..=7).chain(10..=number::LAST).filter(|number| !answered(number)).collect()
+        (0..=number::LAST).filter(|&number| number::is_used(number) && !self.answered(number)).collect()
+    }
+
+    /// Those that were answered and are not in the table: withdrawn ones, and any behind the last.
+    pub fn strange(&self) -> Vec<u64> {
+        self.0.values().flat_map(BTreeMap::keys).copied().filter(|&number| !number::is_used(number)).collect()
+    }
+
+    fn answered(&self, number: u64) -> bool {
+        self.0.values().any(|numbers| numbers.contains_key(&number))
     }
 }
 

@@ -3,7 +3,7 @@
 use crate::batch::{Call, Record, BYTES_MAX, ROOM_MAX};
 use crate::card::{self, all_kinds, Rule, LAST_KIND, ROWS_MAX};
 use crate::values::{self, fascn_encode, fascn_pack, fascn_values, is_date, Format, FACE, FINGERS, IRIS};
-use crate::{dates, faces, faults, irises, lengths, trees, CONTAINER_MAX, NO_TAG, REPORT_MAX, SHEET_ROOM};
+use crate::{dates, faces, faults, irises, lengths, longest, trees, CONTAINER_MAX, NO_TAG, REPORT_MAX, SHEET_ROOM};
 
 /// splitmix64.
 pub struct Rng(u64);
@@ -47,7 +47,7 @@ impl Rng {
         (0..n).map(|_| self.byte()).collect()
     }
 
-    fn text(&mut self, n: usize) -> Vec<u8> {
+    pub fn text(&mut self, n: usize) -> Vec<u8> {
         (0..n).map(|_| if self.one_in(12) { self.pick(&[0x20, 0x7E]) } else { self.size(0x20, 0x7E) as u8 }).collect()
     }
 }
@@ -1501,9 +1501,10 @@ impl Inputs {
 fn random_record(rng: &mut Rng) -> Record {
     let mut record = match rng.below(1_000) {
         0 | 1 => big_record(rng),
-        2..=59 => fascn_decode_record(rng),
-        60..=109 => fascn_encode_record(rng),
-        110..=289 => write_record(rng),
+        2..=11 => longest_record(rng),
+        12..=69 => fascn_decode_record(rng),
+        70..=119 => fascn_encode_record(rng),
+        120..=299 => write_record(rng),
         _ => container_record(rng),
     };
     if matches!(record.call, Call::FascnDecode | Call::FascnEncode) {
@@ -1612,6 +1613,24 @@ fn write_record(rng: &mut Rng) -> Record {
     Record { call: Call::Write, kind, today: card.today, element: 0, room, fill: any_fill(rng), bytes: sheet }
 }
 
+/// A report that is as long as its kind has any, or nearly so, on a container that is mostly good, with a room at the edge.
+fn longest_record(rng: &mut Rng) -> Record {
+    let kind = any_kind(rng);
+    let today = today(rng);
+    let card = longest::nearly_longest(rng, kind, today);
+    let forms = if rng.one_in(3) { Forms::mixed(rng) } else { Forms::all(Form::Fewest) };
+    let mut bytes = card.container_in(&forms);
+    match rng.below(8) {
+        0 => flip_bit(rng, &mut bytes),
+        1 => damage_front(rng, &mut bytes),
+        2 => bytes.truncate(bytes.len() - rng.size(1, 3)),
+        3 => bytes = longest::filled_up(&bytes, kind, rng.pick(&longest::TOTALS)),
+        _ => (),
+    }
+    let room = rng.pick(&longest::ROOMS);
+    Record { call: Call::Report, kind, today, element: 0, room, fill: any_fill(rng), bytes }
+}
+
 /// A container or a sheet near the limit of 32,768 bytes.
 fn big_record(rng: &mut Rng) -> Record {
     let kind = rng.pick(&endless_kinds());
@@ -1659,9 +1678,9 @@ fn big_write_record(rng: &mut Rng, mut card: Card) -> Record {
     Record { call: Call::Write, kind: card.kind, today: card.today, element: 0, room, fill: any_fill(rng), bytes }
 }
 
-/// Changes a bit of the first 201 bytes.
+/// Changes a bit of the first 201 bytes, or of all where there are fewer.
 fn damage_front(rng: &mut Rng, bytes: &mut [u8]) {
-    let at = rng.size(0, 200);
+    let at = rng.size(0, 200.min(bytes.len() - 1));
     bytes[at] ^= 1 << rng.below(8);
 }
 
@@ -1903,6 +1922,7 @@ fn fixed_records() -> Vec<Record> {
     out.extend(irises::records());
     out.extend(faults::records());
     out.extend(lengths::records());
+    out.extend(longest::records());
     out
 }
 

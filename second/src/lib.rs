@@ -12,6 +12,7 @@ pub mod faults;
 pub mod generate;
 pub mod irises;
 pub mod lengths;
+pub mod longest;
 pub mod named;
 pub mod records;
 pub mod report;
@@ -33,7 +34,7 @@ pub mod number {
     pub const SHEET: u64 = 5;
     pub const NO_ELEMENT: u64 = 6;
     pub const DIGITS: u64 = 7;
-    pub const REPORT_TOO_LONG: u64 = 8;
+    // 8 was a report over 512 bytes: 2026-12 withdrew it, since there is none. 9 was never given by 01. Neither is used again.
     pub const OUTER_TAG: u64 = 10;
     pub const LENGTH_FORM: u64 = 11;
     pub const PAST_END: u64 = 12;
@@ -55,6 +56,14 @@ pub mod number {
 
     /// The last of them.
     pub const LAST: u64 = IRIS_RECORD;
+
+    /// The two below the last that no call answers.
+    pub const UNUSED: [u64; 2] = [8, 9];
+
+    /// Whether a call may answer the number.
+    pub fn is_used(number: u64) -> bool {
+        number <= LAST && !UNUSED.contains(&number)
+    }
 }
 
 /// A container has at most this many bytes.
@@ -62,7 +71,7 @@ pub const CONTAINER_MAX: usize = 32_768;
 /// A room of this many bytes holds the sheet of any container. A sheet has at most two bytes more for each absent element, of which
 /// no kind has over four, and two bytes at least of a container lie outside of its elements.
 pub const SHEET_ROOM: usize = CONTAINER_MAX + 6;
-/// A report has at most this many bytes, and asks for a room of at least as many.
+/// A report asks for a room of at least this many bytes, which holds any: [`report::LONGEST`] has the longest of each kind.
 pub const REPORT_MAX: usize = 512;
 
 /// What no tag is as a number, where callers of other languages get the tag of a verdict as one. A tag has one byte or two, and

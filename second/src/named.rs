@@ -14,6 +14,7 @@ mod dates;
 mod faces;
 mod irises;
 mod lengths;
+mod longest;
 mod tags;
 
 /// A call and its answer.
@@ -40,6 +41,7 @@ pub fn all() -> Vec<Group> {
         irises::all(),
         views(),
         reports(),
+        longest::all(),
     ]
     .concat()
 }

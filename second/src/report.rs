@@ -1,21 +1,46 @@
 //! The desk report and the desk program.
 
-use crate::card::{self, Row, Spans, Verdict};
+use crate::card::{self, Row, Spans, Verdict, LAST_KIND};
 use crate::values;
 use crate::{number, CONTAINER_MAX, REPORT_MAX};
 
-/// The page that a report is written on; what does not fit any more is counted only.
+/// How many bytes the longest report on a container of each kind has. It is that of a container which conforms, has every row,
+/// and has each row at a length with the most digits. The lines `CARD 4`, today, `verdict 0 0 --` and `OPEN n`, and the words
+/// of the other three with their spaces and ends, make 67 bytes; then come the name, the digits of the container's length and
+/// of the count of elements, four bytes and the digits of its length for each element, two more for a tag of two bytes, and the
+/// open values, of which no line has two lengths:
+///
+/// | Kind | 67 + name | bytes | count | elements | open |
+/// |---|---|---|---|---|---|
+/// | CCC | 67 + 3 | 3 | 2 | 15 of 4, digits 2 1 1 3 1 1 2, five of 1, 2 2 1 | 9 |
+/// | CHUID | 67 + 5 | 5 | 1 | 9 of 4, digits 1 2 1 1 2 1 2 5 1 | 12 + 12 + 17 |
+/// | DISCOVERY | 67 + 9 | 2 | 1 | 2 of 4, digits 2 1, and 2 | 12 |
+/// | PRINTED | 67 + 7 | 3 | 1 | 8 of 4, digits 3 2 1 2 2 2 2 1 | 23 |
+/// | SECURITY | 67 + 8 | 4 | 1 | 3 of 4, digits 2 4 1 | 0 |
+/// | FINGERS, FACE, IRIS | 67 + 7, 4, 4 | 5 | 1 | 2 of 4, digits 5 1 | 12 + 12 |
+/// | PIVAUTH, DIGSIG, KEYMGMT, CARDAUTH | 67 + 7, 6, 7, 8 | 5 | 1 | 4 of 4, digits 5 1 2 1 | 0 |
+///
+/// A longer form of a length changes no count of digits: a CCC has 306 bytes at the most, a PRINTED 251 and a SECURITY 1,344.
+/// Those that are refused have shorter reports, see [`LONGEST_REFUSED`]. A kind that is added has to keep to [`REPORT_MAX`].
+pub const LONGEST: [usize; LAST_KIND as usize] = [165, 171, 104, 148, 99, 118, 115, 105, 104, 105, 106, 115];
+
+/// The same of the containers that are refused. The words and their ends, `CARD 4`, today, the two sections without a line, and
+/// a number of two digits make 66 bytes; then come the name, up to five digits of the container's length, those of the place,
+/// and the tag or two hyphens. A place is where conforming elements end: these have under 1,000 bytes in a CCC and a PRINTED,
+/// under 10,000 in a SECURITY and under 100 in a DISCOVERY, whose tag of two bytes has four digits; in every other kind there
+/// is one that can be as long as the container allows.
+pub const LONGEST_REFUSED: [usize; LAST_KIND as usize] = [79, 83, 86, 83, 85, 85, 82, 85, 84, 85, 86, 82];
+
+/// The page that a report is written on: the front of the room. No report fills it.
 struct Page<'a> {
-    room: &'a mut [u8],
+    room: &'a mut [u8; REPORT_MAX],
     length: usize,
 }
 
 impl Page<'_> {
     fn bytes(&mut self, bytes: &[u8]) {
         let end = self.length + bytes.len();
-        if let Some(slot) = self.room.get_mut(self.length..end) {
-            slot.copy_from_slice(bytes);
-        }
+        self.room[self.length..end].copy_from_slice(bytes);
         self.length = end;
     }
 
@@ -94,9 +119,7 @@ pub fn report(kind: u64, today: u64, container: &[u8], room: &mut [u8]) -> (u64,
 
 fn try_report(kind_number: u64, today: u64, container: &[u8], room: &mut [u8]) -> Result<usize, u64> {
     let kind = card::admit(kind_number, today)?;
-    if room.len() < REPORT_MAX {
-        return Err(number::ROOM);
-    }
+    let page = room.get_mut(..REPORT_MAX).and_then(|page| page.try_into().ok()).ok_or(number::ROOM)?;
     if container.len() > CONTAINER_MAX {
         return Err(number::TOO_LONG);
     }
@@ -108,7 +131,7 @@ fn try_report(kind_number: u64, today: u64, container: &[u8], room: &mut [u8]) -
         count += 1;
     });
 
-    let mut page = Page { room: &mut room[..REPORT_MAX], length: 0 };
+    let mut page = Page { room: page, length: 0 };
     page.text("CARD 4\nkind ");
     page.text(kind.name);
     page.end_line();
@@ -125,9 +148,6 @@ fn try_report(kind_number: u64, today: u64, container: &[u8], room: &mut [u8]) -
             let row = kind.rows.iter().position(|row| row.tag == tag);
             row.and_then(|row| spans.value(row, container)).unwrap_or(&[])
         });
-    }
-    if page.length > REPORT_MAX {
-        return Err(number::REPORT_TOO_LONG);
     }
     Ok(page.length)
 }

@@ -8,8 +8,6 @@ use native.Mathlib.Omega.{arith}
 use lib.ListN.{length, take, drop, length-drop}
 use lib.Seq.{drop-drop, length-take-le}
 use borrow.Author.Tests.{lt-ltb, le-ltb}
-use Rattle.laws.specs.Bytes.{Bytes}
-use Rattle.laws.proofs.Bases.{below-drop}
 use Rattle.lengths.specs.Length.{readLength, lengthAt}
 use Rattle.lengths.specs.declared.Length.the-variants.{Is, Bad as LengthBad}
 use Rattle.lengths.proofs.Reading.{some-read, none-read}

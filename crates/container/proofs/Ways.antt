@@ -8,7 +8,6 @@ use native.Mathlib.Omega.{arith}
 use lib.ListN.{length, getD, drop}
 use lib.Seq.{drop-drop}
 use borrow.Author.Tests.{le-leb, lt-leb, eq-eqb, ne-eqb}
-use Rattle.laws.specs.Bytes.{Bytes}
 use Rattle.laws.specs.Room.{zeros}
 use Rattle.lengths.specs.Length.{readLength, lengthAt}
 use Rattle.lengths.specs.declared.Length.the-variants.{Is, Bad}

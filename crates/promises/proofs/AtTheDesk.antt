@@ -30,7 +30,7 @@ printed-values {s} {kind} {today} {c} a b vs h = printed-asked a ∙ ap shown (c
 
 pub at-the-desk : AtTheDesk
 at-the-desk = record {
-  report-printed = λ s kind today c b a k l.
+  report-printed = λ s kind today c a k l.
       printed-asked a ∙ ap shown (report-0 kind today c reportRoom (kind-exact kind .1 k) (date-exact today .1 (a-date a)) (omega arith) l);
   kind-refused = kind-refused;
   date-refused = date-refused;

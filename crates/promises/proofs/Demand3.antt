@@ -24,11 +24,11 @@ use Rattle.promises.specs.Demands.{Demand3}
 use Rattle.promises.proofs.Rooms.{gave}
 
 -- a report is the whole text
-whole : (kind today : ℕ) (c : List ℕ) → Bytes c → IsKind kind → IsDate today → length c ≤ largest → (before after : List ℕ) (r : Done) → 512 ≤ length before
+whole : (kind today : ℕ) (c : List ℕ) → IsKind kind → IsDate today → length c ≤ largest → (before after : List ℕ) (r : Done) → 512 ≤ length before
     → Reports kind today c before after r
     → let report : List ℕ = reportText kind today (length c) (parsed kind today c) in
     (r .number ≡ 0) × (r .length ≡ length report) × (r .length ≤ 512) × (after ≡ filled report (length before))
-whole kind today c b k d s before after r l h =
+whole kind today c k d s before after r l h =
     let k′ = kind-exact kind .1 k in
     let d′ = date-exact today .1 d in
     let e = report-0 kind today c (length before) k′ d′ l s in

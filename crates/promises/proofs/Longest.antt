@@ -1,6 +1,6 @@
 -- 2026-12: no report of any kind in use is over 512 bytes, nor over its kind's figure, which is reached; 1, 2, 3, 4 in this order; no 8 and no 9. Assumes
 -- nothing.
-use Prim.Native.Nat.{ℕ, _≤_, _<_}
+use Prim.Native.Nat.{ℕ, _≤_}
 use mathlib.Core.Logic.{inl, inr}
 use mathlib.Core.Path.{_≡_, refl, sym, ap, _∙_}
 use mathlib.Core.Bool.{Bool, true, cond, _&&_, true≢false}

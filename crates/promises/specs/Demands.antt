@@ -224,7 +224,7 @@ pub record Demand3 : Type 0 where
       → Reports k t c before₁ after₁ r₁ → Reports l u d before₂ after₂ r₂ → take (r₁ .length) after₁ ≡ take (r₂ .length) after₂
       → (k ≡ l) × (t ≡ u) × (shape vs ≡ shape ws) × (openOf k vs ≡ openOf k ws)
   -- no report is cut off: it is the whole text, of at most 512 bytes, and zeros behind it
-  pub whole-text : (kind today : ℕ) (c : List ℕ) → Bytes c → IsKind kind → IsDate today → length c ≤ largest
+  pub whole-text : (kind today : ℕ) (c : List ℕ) → IsKind kind → IsDate today → length c ≤ largest
       → (before after : List ℕ) (r : Done) → 512 ≤ length before → Reports kind today c before after r
       → let report : List ℕ = reportText kind today (length c) (parsed kind today c) in
       (r .number ≡ 0) × (r .length ≡ length report) × (r .length ≤ 512) × (after ≡ filled report (length before))
@@ -237,7 +237,7 @@ pub record Demand3 : Type 0 where
 
 pub record AtTheDesk : Type 0 where
   -- what is printed: the report, for a kind, a date and a container of at most 32,768 bytes; else a refusal, which tells its number and nothing else
-  pub report-printed : (s : List ℕ) (kind today : ℕ) (c : List ℕ) → Bytes c → Asks s kind today c → IsKind kind → length c ≤ largest
+  pub report-printed : (s : List ℕ) (kind today : ℕ) (c : List ℕ) → Asks s kind today c → IsKind kind → length c ≤ largest
       → printed s ≡ reportText kind today (length c) (parsed kind today c)
   pub kind-refused : (s : List ℕ) → ((kind : ℕ) → IsKind kind → take 2 s ≡ kindText kind → ⊥) → printed s ≡ refusedText (numberOf UnknownKind)
   pub date-refused : (s : List ℕ) (kind : ℕ) → IsKind kind → take 2 s ≡ kindText kind → (IsTextDate (take 8 (drop 2 s)) → ⊥)

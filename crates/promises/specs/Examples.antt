@@ -589,6 +589,8 @@ examples =
     ∷ reports 2 (replicate 32769 0) 511 3 []
     ∷ reports 2 (replicate 32769 0) 512 4 []
     ∷ reports 2 (replicate 32768 0) 512 0 (ascii "CARD 4\nkind CHUID\nbytes 32768\ntoday 20260301\nverdict 10 0 --\nELEMENTS 0\nOPEN 0\n")
+    -- P14
+    ∷ reports 3 (discovery 0x60) 512 0 (ascii "CARD 4\nkind DISCOVERY\nbytes 20\ntoday 20260301\nverdict 20 15 5F2F\nELEMENTS 0\nOPEN 0\n")
     -- the longest report of a kind, of a certificate and of a biometric record too; and one of a container that breaks a rule, at a place of five digits
     ∷ reports 1 (longestCard 1) 512 0 (ascii "CARD 4\nkind CCC\nbytes 301\ntoday 20260301\nverdict 0 0 --\nELEMENTS 15\nF0 21\nF1 1\nF2 1\nF3 128\nF4 1\nF5 1\nF6 17\nF7 0\nFA 0\nFB 0\nFC 0\nFD 0\nE3 48\nB4 48\nFE 0\nOPEN 1\nmodel 10\n")
     ∷ reports 2 (longestCard 2) 512 0 (ascii "CARD 4\nkind CHUID\nbytes 10104\ntoday 20260301\nverdict 0 0 --\nELEMENTS 9\nEE 2\n30 25\n32 4\n33 9\n34 16\n35 8\n36 16\n3E 10000\nFE 0\nOPEN 3\nagency 1234\nsystem 0001\nexpires 20300131\n")

@@ -2,4 +2,3 @@ pub mod Bound
 pub mod Answers
 pub mod Same
 pub mod Converse
-pub mod Examples

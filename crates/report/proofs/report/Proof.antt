@@ -6,7 +6,6 @@ use native.Mathlib.Nat.{le-trans}
 use native.Mathlib.Omega.{arith}
 use lib.ListN.{length}
 use borrow.Author.Tests.{not-true, not-false, ltb-true, ltb-false}
-use Rattle.laws.proofs.Rooms.{put-filled}
 use Rattle.dates.specs.Date.{isDate}
 use Rattle.kinds.specs.Tables.{isKind}
 use Rattle.verdicts.proofs.Outputs.{refuses, gives}
