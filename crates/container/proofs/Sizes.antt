@@ -57,9 +57,9 @@ abbrev Bounded : Table → ℕ → List ℕ → Parsed Part → Type 0
 Bounded rs at s (values ps) = Sized rs (valuesOf ps) × (length s ≤ widest rs)
 Bounded rs at s (fault f) = f .place ≤ at + length s
 
-by-test : (b : Bool) (P : Parsed Part → Type 0) {x y : Parsed Part} → (b ≡ true → P x) → (b ≡ false → P y) → P (cond b x y)
-by-test true P f g = f refl
-by-test false P f g = g refl
+either-way : (b : Bool) (P : Parsed Part → Type 0) {x y : Parsed Part} → (b ≡ true → P x) → (b ≡ false → P y) → P (cond b x y)
+either-way true P f g = f refl
+either-way false P f g = g refl
 
 skipped : (r : Entry) (rs : Table) (at : ℕ) (s : List ℕ) (p : Parsed Part) → r .optional ≡ true → Bounded rs at s p → Bounded (r ∷ rs) at s (prepend none p)
 skipped r rs at s (values ps) o h = ((o, h .0), omega (arith, h .1))
@@ -86,12 +86,12 @@ parse-bounded : (today : ℕ) (all rs : Table) (at : ℕ) (s : List ℕ) → Bou
 parse-bounded today all [] at [] = (tt, omega arith)
 parse-bounded today all [] at (b ∷ s) = omega arith
 parse-bounded today all (r ∷ rs) at [] =
-    by-test (r .optional) (Bounded (r ∷ rs) at []) (λ o. skipped r rs at [] (parse today all rs at []) o (parse-bounded today all rs at [])) (λ o. omega arith)
+    either-way (r .optional) (Bounded (r ∷ rs) at []) (λ o. skipped r rs at [] (parse today all rs at []) o (parse-bounded today all rs at [])) (λ o. omega arith)
 parse-bounded today all (r ∷ rs) at (b ∷ s) =
-    by-test (eqb (tagHere all b s) (r .tag)) (Bounded (r ∷ rs) at (b ∷ s))
+    either-way (eqb (tagHere all b s) (r .tag)) (Bounded (r ∷ rs) at (b ∷ s))
     (λ q. element-bounded today r rs at b s _ (λ n. parse-bounded today all rs (at + long (r .tag) + n) (drop (long (r .tag) + n) (b ∷ s))))
     (λ q.
-    by-test (r .optional) (Bounded (r ∷ rs) at (b ∷ s)) (λ o. skipped r rs at (b ∷ s) (parse today all rs at (b ∷ s)) o (parse-bounded today all rs at (b ∷ s)))
+    either-way (r .optional) (Bounded (r ∷ rs) at (b ∷ s)) (λ o. skipped r rs at (b ∷ s) (parse today all rs at (b ∷ s)) o (parse-bounded today all rs at (b ∷ s)))
     (λ o. omega arith))
 
 -- ---- the whole
@@ -104,30 +104,30 @@ abbrev pub Measured : ℕ → List ℕ → Parsed (List ℕ) → Type 0
 Measured kind c (values vs) = Sized (table kind) vs × (length c ≤ sizeMost (table kind))
 Measured kind c (fault f) = f .place ≤ length c
 
-within-outer : (kind t : ℕ) (s : List ℕ) (w : ℕ) → w ≤ 5 → w ≤ length s → (p : Parsed Part) → Bounded (table kind) (1 + w) (drop w s) p → Measured kind (t ∷ s) (alone p)
-within-outer kind t s w m i (values ps) h = (h .0, omega (arith, h .1, length-drop w s))
-within-outer kind t s w m i (fault f) h = omega (arith, h, length-drop w s)
+outer-bounded : (kind t : ℕ) (s : List ℕ) (w : ℕ) → w ≤ 5 → w ≤ length s → (p : Parsed Part) → Bounded (table kind) (1 + w) (drop w s) p → Measured kind (t ∷ s) (alone p)
+outer-bounded kind t s w m i (values ps) h = (h .0, omega (arith, h .1, length-drop w s))
+outer-bounded kind t s w m i (fault f) h = omega (arith, h, length-drop w s)
 
 inner-measured : (kind today t : ℕ) (s : List ℕ) (o : Option Spelt) → readLength s ≡ o → Measured kind (t ∷ s) (alone (inner today (table kind) o s))
 inner-measured kind today t s none e = omega arith
 inner-measured kind today t s (some n) e =
     let (first, few, within) = inside s n e in
-    by-test (eqb (length s) (n .width + n .number)) (λ p. Measured kind (t ∷ s) (alone p))
+    either-way (eqb (length s) (n .width + n .number)) (λ p. Measured kind (t ∷ s) (alone p))
     (λ q.
-    within-outer kind t s (n .width) few within (parse today (table kind) (table kind) (1 + n .width) (drop (n .width) s))
+    outer-bounded kind t s (n .width) few within (parse today (table kind) (table kind) (1 + n .width) (drop (n .width) s))
     (parse-bounded today (table kind) (table kind) (1 + n .width) (drop (n .width) s)))
     (λ q. omega arith)
 
 outer-measured : (kind today : ℕ) (c : List ℕ) → Measured kind c (alone (outer kind today c))
 outer-measured kind today [] = omega arith
 outer-measured kind today (t ∷ s) =
-    by-test (eqb t (outerTag kind)) (λ p. Measured kind (t ∷ s) (alone p)) (λ q. inner-measured kind today t s (readLength s) refl) (λ q. omega arith)
+    either-way (eqb t (outerTag kind)) (λ p. Measured kind (t ∷ s) (alone p)) (λ q. inner-measured kind today t s (readLength s) refl) (λ q. omega arith)
 
 pub measured : (kind today : ℕ) (c : List ℕ) → Measured kind c (parsed kind today c)
 unfolding parsed located
 measured kind today c =
-    by-test (isKind kind) (λ p. Measured kind c (alone p))
+    either-way (isKind kind) (λ p. Measured kind c (alone p))
     (λ k.
-    by-test (isDate today) (λ p. Measured kind c (alone p))
-    (λ d. by-test (leb (length c) largest) (λ p. Measured kind c (alone p)) (λ l. outer-measured kind today c) (λ l. omega arith)) (λ d. omega arith))
+    either-way (isDate today) (λ p. Measured kind c (alone p))
+    (λ d. either-way (leb (length c) largest) (λ p. Measured kind c (alone p)) (λ l. outer-measured kind today c) (λ l. omega arith)) (λ d. omega arith))
     (λ k. omega arith)
