@@ -3,7 +3,7 @@
 --     report-length     nor over the figure that `longest` has for the kind
 --     under-room        no figure is over 512
 -- "A later kind has to keep the bound": its figure goes into `longest`. The checker computes the figure of every kind from its table, its name and what is
--- open of it; so `as-computed` refuses a figure that is missing or not the one computed, and `under-room` one over 512. Nothing else is to be shown.
+-- open of it; so `all-fit` refuses a figure that is missing or not the one computed, and `under-room` one over 512. Nothing else is to be shown.
 use Prim.Native.Nat.{ℕ, _+_, _≤_}
 use mathlib.Core.Path.{_≡_, refl}
 use mathlib.Core.Bool.{Bool, true, cond, _&&_}

@@ -57,10 +57,13 @@ pub fn put_decimal(n: u64, out: &mut [u8]) -> usize
     put_fixed(places(n), n, out)
 }
 
-// A number without leading zeros, and the mark that ends it.
+// A number without leading zeros, and the mark that ends it. One digit, as most lengths have, is put at once with its mark.
 pub fn put_number(n: u64, mark: u8, out: &mut [u8]) -> usize
     ensures { λ r. ⌜ Put (numeral n mark) (now (out .entry)) (now (out .exit)) r ⌝ }
 {
+    if n < 10 {
+        return room::put_pair(48 + n as u8, mark, out);
+    }
     let at = put_decimal(n, out);
     at + put_byte(mark, &mut out[at..])
 }
