@@ -1,5 +1,5 @@
 -- What holds of every kind: one test, computed over the list of tables, holds of the table of any number. Assumes nothing.
-use Prim.Native.Nat.{ℕ, _+_, _≤_, _<_}
+use Prim.Native.Nat.{ℕ, zero, suc, _+_, _≤_, _<_}
 use mathlib.Core.Path.{_≡_, refl}
 use mathlib.Core.Bool.{Bool, true, cond}
 use mathlib.Core.Logic.{inl, inr}
@@ -7,7 +7,7 @@ use mathlib.Core.List.{[], _∷_}
 use native.Mathlib.Omega.{arith}
 use lib.Dec.{leb, ltb, eqb}
 use lib.ListN.{length}
-use borrow.Author.Tests.{leb-true, ltb-true, eqb-true, ne-eqb}
+use borrow.Author.Tests.{leb-true, ltb-true, eqb-true}
 use Rattle.laws.specs.Tests.{allBelow}
 use Rattle.laws.proofs.Cases.{which, at-each, along}
 use Rattle.kinds.specs.Tables.{Table, tables, table, IsKind, find, rowOf, lastOf, lastRow}
@@ -23,6 +23,11 @@ of-every-kind test t e kind = along ([] ∷ tables) [] test t e kind
 pub of-every : (test : Table → Bool) → allBelow (λ k. test (table k)) (length ([] ∷ tables)) ≡ true → (kind : ℕ) → test (table kind) ≡ true
 of-every test t = of-every-kind (λ k rows. test rows) t (λ k. at-each (λ k. test (table k)) (length ([] ∷ tables)) t 0 (omega arith))
 
+-- a test of the number alone, which need not hold of one that is no kind
+pub of-each : (test : ℕ → Bool) → allBelow (λ k. test (suc k)) (length tables) ≡ true → (kind : ℕ) → IsKind kind → test kind ≡ true
+of-each test t zero k = absurd (omega (arith, k .0))
+of-each test t (suc kind) k = at-each (λ k. test (suc k)) (length tables) t kind (omega (arith, k .1))
+
 -- ---- no table has more than fifteen rows
 
 pub few-rows : (kind : ℕ) → length (table kind) ≤ 15
@@ -33,9 +38,7 @@ few-rows kind = leb-true _ _ (of-every (λ rows. leb (length rows) 15) refl kind
 
 pub some-rows : (kind : ℕ) → IsKind kind → 0 < length (table kind)
 unfolding allBelow
-some-rows kind k =
-    let t = at-each (λ k. cond (eqb k 0) true (ltb 0 (length (table k)))) (length ([] ∷ tables)) refl kind (omega arith) in
-    ltb-true _ _ (rw (ne-eqb kind 0 (λ z. omega arith)) at t)
+some-rows kind k = ltb-true _ _ (of-each (λ kind. ltb 0 (length (table kind))) refl kind k)
 
 -- every table ends with a row that must be there: its last mandatory row is its last
 pub last-is-all : (kind : ℕ) → lastRow kind ≡ length (table kind)

@@ -1,20 +1,20 @@
 -- 2026-12: no report of any kind in use is over 512 bytes, nor over its kind's figure, which is reached; 1, 2, 3, 4 in this order; no 8 and no 9. Assumes
 -- nothing.
-use Prim.Native.Nat.{ℕ, _≤_}
+use Prim.Native.Nat.{ℕ, suc, _≤_}
 use mathlib.Core.Logic.{inl, inr}
 use mathlib.Core.Path.{_≡_, refl, sym, ap, _∙_}
-use mathlib.Core.Bool.{Bool, true, cond, _&&_, true≢false}
+use mathlib.Core.Bool.{Bool, true, _&&_, true≢false}
 use mathlib.Core.List.{List, [], _∷_}
 use native.Mathlib.Omega.{arith}
 use native.Mathlib.Decide.{decLt}
 use lib.Count.{ones}
 use lib.Dec.{eqb}
 use lib.ListN.{length}
-use borrow.Author.Tests.{eqb-true, ne-eqb}
+use borrow.Author.Tests.{eqb-true}
 use Rattle.laws.specs.Bytes.{Bytes}
 use Rattle.laws.specs.Digits.{digits}
 use Rattle.laws.specs.Tests.{allBelow}
-use Rattle.laws.proofs.Cases.{which, all-true, at-each}
+use Rattle.laws.proofs.Cases.{which, all-true}
 use Rattle.verdicts.specs.Verdicts.{numberOf}
 use Rattle.verdicts.specs.Output.{doneOf}
 use Rattle.verdicts.specs.declared.Done.{Done}
@@ -42,6 +42,7 @@ use Rattle.opens.specs.Open.{openPart}
 use Rattle.dates.specs.Date.{isDate, dateOf}
 use Rattle.dates.proofs.Dates.{date-exact}
 use Rattle.kinds.specs.Tables.{IsKind, isKind, tables}
+use Rattle.kinds.proofs.Every.{of-each}
 use Rattle.container.specs.Container.{Values, Conforms, largest}
 use Rattle.container.specs.Reading.{element, located, parsed, outcome, verdict}
 use Rattle.container.proofs.Promise.{kind-exact, exactly-when}
@@ -87,7 +88,7 @@ ways kind today c room =
 reaches : ℕ → Bool
 reaches kind = let c = longestCard kind in areBytes c && eqb (verdict kind today c .number) 0 && eqb (length (reportText kind today (length c) (parsed kind today c))) (longestOf kind)
 
-all-reach : allBelow (λ k. cond (eqb k 0) true (reaches k)) (length ([] ∷ tables)) ≡ true
+all-reach : allBelow (λ k. reaches (suc k)) (length tables) ≡ true
 unfolding allBelow reaches areBytes ones digits exclusive valuesOf framed decoded isFascn lengthBytes readLength daysIn exists isDate dateOf twoDigits monthNumber isPrintedDate isMoment isUuid isPolicy isText ended isCreator pointHolds pointsHold viewHead fills whole extent recordHead isMinutiae informed blockExtent faceHead isFacial dateHolds marksHold shapeHolds irisExtent irisHead isIris readDer headOf items walked certificate ruleOf element located parsed outcome fixed decimal hex2 hexTag cardPart elementLines elementCount openPart reportText
 all-reach = refl
 
@@ -96,10 +97,9 @@ reached : (kind : ℕ) → IsKind kind → (today : ℕ) × (vs : Values) × (c 
 unfolding reaches
 reached kind k =
     let c = longestCard kind in
-    let t = at-each (λ k. cond (eqb k 0) true (reaches k)) (length ([] ∷ tables)) all-reach kind (omega arith) in
     let d =
     all-true (areBytes c ∷ eqb (verdict kind today c .number) 0 ∷ eqb (length (reportText kind today (length c) (parsed kind today c))) (longestOf kind) ∷ [])
-    (rw (ne-eqb kind 0 (λ z. omega arith)) at t) in
+    (of-each reaches all-reach kind k) in
     let b = are-bytes c (d 0) in
     let (vs, h) = exactly-when kind today c b .0 (eqb-true _ 0 (d 1)) in (
       today,

@@ -4,21 +4,22 @@
 --     under-room        no figure is over 512
 -- "A later kind has to keep the bound": its figure goes into `longest`. The checker computes the figure of every kind from its table, its name and what is
 -- open of it; so `all-fit` refuses a figure that is missing or not the one computed, and `under-room` one over 512. Nothing else is to be shown.
-use Prim.Native.Nat.{ℕ, _+_, _≤_}
+use Prim.Native.Nat.{ℕ, suc, _+_, _≤_}
 use mathlib.Core.Path.{_≡_, refl}
 use mathlib.Core.Bool.{Bool, true, cond, _&&_}
 use mathlib.Core.Logic.{inl, inr}
-use mathlib.Core.List.{List, [], _∷_, _++_}
+use mathlib.Core.List.{List, _∷_, _++_}
 use native.Mathlib.Nat.{le-trans}
 use native.Mathlib.Omega.{arith}
 use lib.Dec.{leb, eqb}
 use lib.ListN.{length, length-append}
-use borrow.Author.Tests.{leb-true, eqb-true, ne-eqb}
+use borrow.Author.Tests.{leb-true, eqb-true}
 use Rattle.laws.specs.Tests.{allBelow}
-use Rattle.laws.proofs.Cases.{which, and-true, at-each, along}
+use Rattle.laws.proofs.Cases.{which, and-true, along}
 use Rattle.texts.specs.Text.{decimal, hex2, hexTag}
 use Rattle.texts.proofs.Bounds.{decimal-grows}
 use Rattle.kinds.specs.Tables.{tables, table, IsKind}
+use Rattle.kinds.proofs.Every.{of-each}
 use Rattle.verdicts.specs.Verdicts.{verdictOf}
 use Rattle.verdicts.specs.declared.Outcome.the-variants.{Fine, Broken}
 use Rattle.verdicts.proofs.Apart.{number-small}
@@ -50,15 +51,14 @@ computed kind = 50 + (length (kindName kind) + length (decimal (sizeOf kind))) +
 fits : ℕ → Bool
 fits kind = eqb (computed kind) (longestOf kind) && leb 89 (longestOf kind)
 
-all-fit : allBelow (λ k. cond (eqb k 0) true (fits k)) (length ([] ∷ tables)) ≡ true
+all-fit : allBelow (λ k. fits (suc k)) (length tables) ≡ true
 unfolding allBelow fits decimal hex2 hexTag elementLines elementCount
 all-fit = refl
 
 as-computed : (kind : ℕ) → IsKind kind → (computed kind ≡ longestOf kind) × (89 ≤ longestOf kind)
 unfolding fits
 as-computed kind k =
-    let t = at-each (λ k. cond (eqb k 0) true (fits k)) (length ([] ∷ tables)) all-fit kind (omega arith) in
-    let p = and-true (eqb (computed kind) (longestOf kind)) (leb 89 (longestOf kind)) (rw (ne-eqb kind 0 (λ z. omega arith)) at t) in
+    let p = and-true (eqb (computed kind) (longestOf kind)) (leb 89 (longestOf kind)) (of-each fits all-fit kind k) in
     (eqb-true _ _ (p .0), leb-true _ _ (p .1))
 
 pub under-room : (kind : ℕ) → longestOf kind ≤ reportRoom
