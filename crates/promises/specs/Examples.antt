@@ -146,8 +146,8 @@ printedSheet text = 0 ∷ 1 ∷ 0 ∷ 1 ∷ 0 ∷ (length text + 1) ∷ (text ++
 abbrev security : List ℕ
 security = container 5 (some [] ∷ some [] ∷ some [] ∷ [])
 
--- a CBEFF header: the data length, the signature's, the owner, the format, the type, the data type, the quality, and its end given; the end: P1's FASC-N and the reserved
--- bytes
+-- a CBEFF header: the data length, the signature's, the owner, the format, the type, the data type, the quality, and its end given; the end: P1's FASC-N
+-- and the reserved bytes
 abbrev moment : List ℕ
 moment = 20 ∷ 26 ∷ 1 ∷ 1 ∷ 0 ∷ 0 ∷ 0 ∷ 0x5A ∷ []
 

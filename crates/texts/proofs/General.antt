@@ -6,6 +6,7 @@ use native.Mathlib.Nat.{not-suc-le-zero, le-of-suc-le-suc}
 use native.Mathlib.Omega.{arith}
 use lib.ListN.{length, set}
 use Rattle.laws.specs.Room.{laid, taken, Put}
+use Rattle.laws.proofs.Rooms.{taken-whole}
 
 -- the text p over the room d from index i on, as far as d goes
 abbrev pub over : ℕ → List ℕ → List ℕ → List ℕ
@@ -27,11 +28,6 @@ over-next (suc i) x p (y ∷ d) = ap (λ (l : List ℕ). y ∷ l) (over-next i x
 
 -- ---- how much of it the room took
 
-taken-all : (p d : List ℕ) → length p ≤ length d → taken p d ≡ length p
-taken-all [] d h = refl
-taken-all (x ∷ p) [] h = absurd (not-suc-le-zero h)
-taken-all (x ∷ p) (y ∷ d) h = ap suc (taken-all p d (le-of-suc-le-suc h))
-
 taken-full : (p d : List ℕ) → length d ≤ length p → taken p d ≡ length d
 taken-full [] [] h = refl
 taken-full [] (y ∷ d) h = absurd (not-suc-le-zero h)
@@ -39,7 +35,7 @@ taken-full (x ∷ p) [] h = refl
 taken-full (x ∷ p) (y ∷ d) h = ap suc (taken-full p d (le-of-suc-le-suc h))
 
 pub put-whole : {p d e : List ℕ} {n : ℕ} → e ≡ laid p d → n ≡ length p → n ≤ length d → Put p d e n
-put-whole {p} {d} {e} {n} r c h = record { room = r; count = c ∙ rw (taken-all p d (omega arith)); inside = h }
+put-whole {p} {d} {e} {n} r c h = record { room = r; count = c ∙ rw (taken-whole p d (omega arith)); inside = h }
 
 pub put-cut : {p d e : List ℕ} {n : ℕ} → e ≡ laid p d → n ≡ length d → n ≤ length p → Put p d e n
 put-cut {p} {d} {e} {n} r c h = record { room = r; count = c ∙ rw (taken-full p d (omega arith)); inside = omega arith }
