@@ -1,5 +1,5 @@
-// The six calls of Prosianek for C and C++: PIV card data containers (SP 800-73-4) checked and read, written, viewed and
-// reported, and FASC-N numbers alone. crates/capi/src/lib.rt of the repository has the functions with their contracts. They are
+// The seven calls of Prosianek for C and C++: PIV card data containers (SP 800-73-4) checked and read, written, viewed and
+// reported, the points of a FINGERS container as lists, and FASC-N numbers alone. crates/capi/src/lib.rt of the repository has the functions with their contracts. They are
 // in libprosianek.a, which links into x86-64 programs and needs only the C library's memory functions:
 //     cc program.c $(pkg-config --cflags --libs prosianek)
 //
@@ -9,15 +9,15 @@
 //
 // What a C caller owes, because nothing on this side of the border can check it:
 //   - a pointer is not null, also where its size is 0: lend any byte there;
-//   - a pointer with a size is valid for that many bytes: to read where it is const, else to read and write. The room's
-//     earlier contents do not matter, but they have to be there to be cleared;
-//   - a uint64_t pointer is valid for one number, or for nine where the parameter says [9], and is aligned as usual;
-//   - the rooms and the lent numbers of one call do not overlap each other, nor the call's input.
+//   - a pointer with a size is valid for so many bytes, a list with a size for so many numbers: to read where it is const, else
+//     to read and write. The room's or the list's earlier contents do not matter, but they have to be there to be cleared;
+//   - any other uint64_t pointer is valid for one number, or for nine where the parameter says [9], and all are aligned as usual;
+//   - the rooms, the lists and the lent numbers of one call do not overlap each other, nor the call's input.
 // If one of these fails, no promise holds.
 //
 // The number that each call answers is one of enum prosianek_number. A call writes each of its lent numbers on every
-// answer. A refusal (any number but 0) leaves the lent room all zeros; a success leaves zeros after the last byte of
-// output. So the rest of a room never shows what an earlier call left there.
+// answer. A refusal (any number but 0) leaves the lent room, or each lent list, all zeros; a success leaves zeros after the last
+// byte of output, or after the last point. So the rest of a room never shows what an earlier call left there.
 #ifndef PROSIANEK_H
 #define PROSIANEK_H
 
@@ -38,6 +38,9 @@ enum {
     // A room of this size holds the sheet of any container: a sheet has at most 6 bytes more than its container, which is
     // proved (`room-for-sheet` in crates/promises/specs/Demands.antt).
     PROSIANEK_SHEET_ROOM = 32774,
+    // Lists of this many numbers hold the points of any container: two views have at most 128 each, which is proved
+    // (`most-points` in crates/promises/specs/Demands.antt).
+    PROSIANEK_MOST_POINTS = 256,
     // What stands for no tag in a verdict. No tag can be it, since a tag has one byte or two; 0 is the tag 00.
     PROSIANEK_NO_TAG = 65536
 };
@@ -63,7 +66,7 @@ enum prosianek_number {
     PROSIANEK_DONE = 0,             // conforms, or done
     PROSIANEK_UNKNOWN_KIND = 1,     // the kind is not 1 to 12
     PROSIANEK_NO_DATE = 2,          // today is no date
-    PROSIANEK_SMALL_ROOM = 3,       // the room is too small
+    PROSIANEK_SMALL_ROOM = 3,       // the room is too small, or a list
     PROSIANEK_LARGE_CONTAINER = 4,  // the container has over 32,768 bytes, given or to be written
     PROSIANEK_TORN_SHEET = 5,       // the sheet is cut short or has bytes left over
     PROSIANEK_NO_ELEMENT = 6,       // view: the element is absent, or the tag is not of the kind
@@ -148,6 +151,26 @@ uint64_t prosianek_view(uint64_t kind, uint64_t today, const uint8_t *container,
 // 1, 2, 3 for a room under 512 bytes, 4. The room then holds the report and zeros; on a refusal all zeros.
 uint64_t prosianek_report(uint64_t kind, uint64_t today, const uint8_t *container, size_t size, uint8_t *room,
                           size_t room_size, uint64_t *length);
+
+// The points (minutiae) of a FINGERS container that conforms, the first view's and then the second's, as five lists: entry i of
+// each list is a number of point i. A point, put back, is six bytes, the high byte first: type * 16384 + x in two, y in two, angle,
+// quality. The points are personal, and no report has them.
+//   types    lent: the type of each point, 0 to 2; types_size how many numbers the list has room for.
+//   xs, ys   lent: where it is, 0 to 16383 each.
+//   angles   lent: its angle, 0 to 179, as the card has it.
+//   qualities  lent: its quality, 0 to 100.
+//   place    as prosianek_check gives it; 0 for 3.
+//   tag      as prosianek_check gives it; PROSIANEK_NO_TAG for 3 and on a success.
+//   first    how many points the first view has, 0 to 128; 0 on a refusal.
+//   second   how many the second has, likewise.
+// Answers 0 if the lists are filled; else what prosianek_check answers of kind 6, or 3 if the container conforms and a list has room
+// for fewer numbers than there are points. The lists may have room for different numbers: PROSIANEK_MOST_POINTS are always enough,
+// and where there are no points, none. Each list then holds a number of each point, and zeros up to its own end; on a refusal all
+// are zeros.
+uint64_t prosianek_lists(uint64_t today, const uint8_t *container, size_t size, uint64_t *types, size_t types_size,
+                         uint64_t *xs, size_t xs_size, uint64_t *ys, size_t ys_size, uint64_t *angles, size_t angles_size,
+                         uint64_t *qualities, size_t qualities_size, uint64_t *place, uint64_t *tag, uint64_t *first,
+                         uint64_t *second);
 
 // The nine numbers of a FASC-N.
 //   bytes    the FASC-N, size its bytes: 25, or it is refused.

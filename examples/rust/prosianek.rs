@@ -1,4 +1,4 @@
-//! The six calls of Prosianek for Rust: safe functions over include/prosianek.h, which says more of each. To use them in a
+//! The seven calls of Prosianek for Rust: safe functions over include/prosianek.h, which says more of each. To use them in a
 //! project of your own, copy this file, and give rustc the folder of libprosianek.a (`-L native=FOLDER`).
 //!
 //! What C callers have to see to, Rust's references bring: they are valid and never null, and what is lent for writing
@@ -27,6 +27,8 @@ pub const FASCN_BYTES: usize = 25;
 pub const LARGEST_CONTAINER: usize = 32_768;
 /// A room of this size holds the sheet of any container.
 pub const SHEET_ROOM: usize = 32_774;
+/// A list of this size holds the points of any container.
+pub const MOST_POINTS: usize = 256;
 /// What prosianek_check, prosianek_write and prosianek_view write for no tag, which no tag can be. Refused has None for it.
 pub const NO_TAG: u64 = 65_536;
 
@@ -37,6 +39,17 @@ pub struct Refused {
     pub number: u64,
     pub place: u64,
     pub tag: Option<u64>,
+}
+
+/// A point (minutia) of a finger: its type, 0 to 2, where it is, 0 to 16,383 each, its angle, 0 to 179, and its quality, 0 to 100.
+/// The default has zeros alone, as an entry behind the last point has.
+#[derive(Clone, Copy, Debug, Default, PartialEq, Eq)]
+pub struct Point {
+    pub sort: u64,
+    pub x: u64,
+    pub y: u64,
+    pub angle: u64,
+    pub quality: u64,
 }
 
 // The functions themselves, as the header declares them.
@@ -84,6 +97,25 @@ extern "C" {
         room: *mut u8,
         room_size: usize,
         length: *mut u64,
+    ) -> u64;
+    pub fn prosianek_lists(
+        today: u64,
+        container: *const u8,
+        size: usize,
+        types: *mut u64,
+        types_size: usize,
+        xs: *mut u64,
+        xs_size: usize,
+        ys: *mut u64,
+        ys_size: usize,
+        angles: *mut u64,
+        angles_size: usize,
+        qualities: *mut u64,
+        qualities_size: usize,
+        place: *mut u64,
+        tag: *mut u64,
+        first: *mut u64,
+        second: *mut u64,
     ) -> u64;
     pub fn prosianek_fascn_decode(bytes: *const u8, size: usize, numbers: *mut [u64; 9]) -> u64;
     pub fn prosianek_fascn_encode(numbers: *const [u64; 9], room: *mut u8, size: usize) -> u64;
@@ -195,6 +227,53 @@ pub fn report(kind: u64, today: u64, container: &[u8], room: &mut [u8]) -> Resul
         )
     };
     answer(number, 0, NO_TAG, length as usize)
+}
+
+/// Fills the list with the points of a FINGERS container that conforms, the first view's and then the second's, and gives how many
+/// each view has. Entries behind the last are all zero, and so is the whole list on a refusal: that of check, or 3 for a list that
+/// is shorter than both counts together. The points are personal, and no report has them.
+pub fn points(
+    today: u64,
+    container: &[u8],
+    list: &mut [Point],
+) -> Result<(usize, usize), Refused> {
+    // No container has more points, so that a longer list needs no longer lists here.
+    let size = list.len().min(MOST_POINTS);
+    let mut lists = [[0; MOST_POINTS]; 5];
+    let [types, xs, ys, angles, qualities] = &mut lists;
+    let (mut place, mut tag, mut first, mut second) = (0, 0, 0, 0);
+    let number = unsafe {
+        prosianek_lists(
+            today,
+            container.as_ptr(),
+            container.len(),
+            types.as_mut_ptr(),
+            size,
+            xs.as_mut_ptr(),
+            size,
+            ys.as_mut_ptr(),
+            size,
+            angles.as_mut_ptr(),
+            size,
+            qualities.as_mut_ptr(),
+            size,
+            &mut place,
+            &mut tag,
+            &mut first,
+            &mut second,
+        )
+    };
+    list.fill(Point::default());
+    for (i, point) in list.iter_mut().take(size).enumerate() {
+        *point = Point {
+            sort: types[i],
+            x: xs[i],
+            y: ys[i],
+            angle: angles[i],
+            quality: qualities[i],
+        };
+    }
+    answer(number, place, tag, (first as usize, second as usize))
 }
 
 /// The nine numbers of a FASC-N: agency, system, credential, series, issue, person, category, organisation, association.

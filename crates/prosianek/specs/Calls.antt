@@ -1,4 +1,4 @@
--- The six calls of the door. Each record is the whole contract of one call: what it answers and what it leaves, on every input. Nothing is asked of
+-- The eight calls of the door. Each record is the whole contract of one call: what it answers and what it leaves, on every input. Nothing is asked of
 -- a caller, and nothing of the answer is left open (`promises`, `Settled`).
 use Prim.Native.Nat.{ℕ}
 use mathlib.Core.Logic.{_⊎_}
@@ -17,6 +17,9 @@ use Rattle.sheet.specs.Calls.{Says}
 use Rattle.sheet.specs.declared.Checked.{Checked}
 use Rattle.writing.specs.Calls.{Puts}
 use Rattle.views.specs.Views.{viewed, Answers}
+use Rattle.points.specs.Calls.{Five, FillsLists, FillsPoints}
+use Rattle.points.specs.declared.Point.{Point}
+use Rattle.points.specs.declared.Listed.{Listed}
 use Rattle.report.specs.Calls.{reportOutput}
 
 -- "Check: 1, 2, 4, then outer 10, 11, 12 (place 0), then each element": the verdict of the bytes c. No room has a part in it
@@ -41,6 +44,14 @@ pub record Views (kind today : ℕ) (c : List ℕ) (element : ℕ) (at : ℕ × 
 -- "Report: 1, 2, 3, 4 ..; broken rules are reported"
 pub record Reports (kind today : ℕ) (c before after : List ℕ) (r : Done) : Type 0 where
   pub leaves : Leaves (reportOutput kind today c (length before)) before after r
+
+-- 2026-10, "A plain form that fills five number lists": the points of the FINGERS container c, with five lists that were `before` and are left as `after`
+pub record Lists (today : ℕ) (c : List ℕ) (before after : Five) (r : Listed) : Type 0 where
+  pub fills : FillsLists today c before after r
+
+-- "fill the caller's list of points (type, x, y, angle, quality), first view then second, and give both counts"
+pub record Points (today : ℕ) (c : List ℕ) (before after : List Point) (r : Listed) : Type 0 where
+  pub fills : FillsPoints today c before after r
 
 -- "Decoding alone: any string but 25 conforming bytes is 17, with all nine numbers 0": the nine numbers whose FASC-N these bytes are; or there are none
 pub record Decodes (s : List ℕ) (r : Decoded) : Type 0 where

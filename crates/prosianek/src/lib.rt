@@ -1,11 +1,14 @@
-// The door: the six calls, and nothing else. Each contract is one record of specs/Calls.antt.
+// The door: the eight calls, and nothing else. Each contract is one record of specs/Calls.antt.
 //
 // kind is 1 CCC, 2 CHUID, 3 DISCOVERY, 4 PRINTED, 5 SECURITY, 6 FINGERS, 7 FACE, 8 PIVAUTH, 9 DIGSIG, 10 KEYMGMT, 11 CARDAUTH,
 // 12 IRIS; today is a date as an eight-digit number.
 // Every input gets an answer. A room that is lent holds the output afterwards, and zeros: nothing of what was there.
-ghost use Rattle.prosianek.specs.Calls.{Checks, Writes, Views, Reports, Decodes, Encodes};
+ghost use Rattle.prosianek.specs.Calls.{Checks, Writes, Views, Reports, Lists, Points, Decodes, Encodes};
+ghost use Rattle.points.specs.Calls.{five};
 use fascn::Decoded;
 use fascn::Numbers;
+use points::Listed;
+use points::Point;
 use sheet::Checked;
 use verdicts::Done;
 
@@ -44,6 +47,36 @@ pub fn report(kind: u64, today: u64, container: &[u8], room: &mut [u8]) -> Done
     ensures { λ r. ⌜ Reports kind today (now (container .entry)) (now (room .entry)) (now (room .exit)) r ⌝ }
 {
     report::report(kind, today, container, room)
+}
+
+// The points of a FINGERS container as five lists of numbers: type, x, y, angle, quality.
+pub fn lists(
+    today: u64,
+    container: &[u8],
+    types: &mut [u64],
+    xs: &mut [u64],
+    ys: &mut [u64],
+    angles: &mut [u64],
+    qualities: &mut [u64],
+) -> Listed
+    ensures { λ r. ⌜ Lists today (now (container .entry)) (five (now (types .entry)) (now (xs .entry)) (now (ys .entry)) (now (angles .entry)) (now (qualities .entry))) (five (now (types .exit)) (now (xs .exit)) (now (ys .exit)) (now (angles .exit)) (now (qualities .exit))) r ⌝ }
+{
+    points::lists(today, container, types, xs, ys, angles, qualities)
+}
+
+// The same as one list of points. The language leaves the proof of a function with such a list to hand, so the loop is here and
+// nowhere else: what is listed, and which entry is which point, are those of the five lists.
+pub fn points(today: u64, container: &[u8], list: &mut [Point]) -> Listed
+    ensures { λ r. ⌜ Points today (now (container .entry)) (now (list .entry)) (now (list .exit)) r ⌝ }
+{
+    let plan = points::locate(today, container, list.len());
+    let mut i: usize = 0;
+    while i < list.len() {
+        let point = points::entry(container, plan, i);
+        list[i] = point;
+        i += 1;
+    }
+    points::answer(plan)
 }
 
 // The nine numbers of a FASC-N.

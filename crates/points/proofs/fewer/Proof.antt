@@ -1,0 +1,13 @@
+-- `points::fewer` meets its contract. Assumes nothing.
+use borrow.Author.Tests.{lt-ltb, le-ltb}
+use Rattle.points.proofs.fewer.Statement.{statement}
+use Rattle.points.proofs.fewer.Tie as tie
+
+returns : tie.Need-returns
+returns c = rw (lt-ltb _ _ (c .if1 .taken))
+
+returns-2 : tie.Need-returns-2
+returns-2 c = rw (le-ltb _ _ (c .if1 .left))
+
+pub fewer-spec : {M : Type 1} → statement M
+fewer-spec = tie.close (tie.spec returns returns-2)

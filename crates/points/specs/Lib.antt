@@ -1,0 +1,3 @@
+pub mod Points
+pub mod Calls
+pub mod Places
