@@ -22,7 +22,8 @@ use std::time::Instant;
 
 #[path = "../examples/rust/prosianek.rs"]
 mod prosianek;
-use prosianek::{prosianek_check, prosianek_fascn_decode, prosianek_fascn_encode, prosianek_report, prosianek_write};
+use prosianek::{prosianek_check, prosianek_fascn_decode, prosianek_fascn_encode};
+use prosianek::{prosianek_lists, prosianek_report, prosianek_write};
 
 const TODAY: u64 = 2026_03_01;
 const LARGEST: usize = second::CONTAINER_MAX;
@@ -104,6 +105,7 @@ enum Call {
     Check,
     Write,
     Report,
+    Lists,
     Decode,
     Encode,
 }
@@ -155,7 +157,23 @@ impl DerefMut for Bytes {
     }
 }
 
-/// The numbers that Prosianek answers; 0 for those that the call does not have.
+/// The room as five lists of one length. It starts at a multiple of 64, so that no byte of it is left over before a number.
+fn five_lists(room: &mut [u8]) -> [&mut [u64]; 5] {
+    let (_, numbers, _) = unsafe { room.align_to_mut::<u64>() };
+    let size = numbers.len() / 5;
+    let (types, rest) = numbers.split_at_mut(size);
+    let (xs, rest) = rest.split_at_mut(size);
+    let (ys, rest) = rest.split_at_mut(size);
+    let (angles, qualities) = rest.split_at_mut(size);
+    [types, xs, ys, angles, qualities]
+}
+
+/// The room of five lists with so many entries each.
+fn room_of_lists(entries: usize) -> usize {
+    5 * entries * std::mem::size_of::<u64>()
+}
+
+/// The numbers that Prosianek answers; 0 for those that the call does not have. Two counts of points stand first of the nine.
 fn prosianek(case: &Case, room: &mut [u8], meter: &mut impl Meter) -> Vec<u64> {
     let (kind, today, input, size) = (case.kind, case.today, case.input.as_ptr(), case.input.len());
     let (to, room_size) = (room.as_mut_ptr(), room.len());
@@ -167,6 +185,18 @@ fn prosianek(case: &Case, room: &mut [u8], meter: &mut impl Meter) -> Vec<u64> {
             Call::Check => meter.measure(|| prosianek_check(kind, today, input, size, to, room_size, p, t, s, l)),
             Call::Write => meter.measure(|| prosianek_write(kind, today, input, size, to, room_size, p, t, l)),
             Call::Report => meter.measure(|| prosianek_report(kind, today, input, size, to, room_size, l)),
+            Call::Lists => {
+                let entries = room_size / room_of_lists(1);
+                let [types, xs, ys, angles, qualities] = five_lists(room).map(<[u64]>::as_mut_ptr);
+                let [first, second, ..] = &mut numbers;
+                let (f, s): (*mut u64, *mut u64) = (first, second);
+                meter.measure(|| {
+                    prosianek_lists(
+                        today, input, size, types, entries, xs, entries, ys, entries, angles, entries, qualities, entries, p,
+                        t, f, s,
+                    )
+                })
+            }
             Call::Decode => meter.measure(|| prosianek_fascn_decode(input, size, &mut numbers)),
             Call::Encode => meter.measure(|| prosianek_fascn_encode(&case.numbers, to, room_size)),
         }
@@ -191,6 +221,13 @@ fn rust(case: &Case, room: &mut [u8], meter: &mut impl Meter) -> Vec<u64> {
             let (number, length) = meter.measure(|| second::report(kind, today, input, room));
             (number, 0, 0, 0, length)
         }
+        Call::Lists => {
+            let [types, xs, ys, angles, qualities] = five_lists(room);
+            let ((number, place, tag), counts) =
+                meter.measure(|| second::lists(today, input, [&mut *types, &mut *xs, &mut *ys, &mut *angles, &mut *qualities]));
+            numbers[..2].copy_from_slice(&counts);
+            (number, place, tag_number(tag), 0, 0)
+        }
         Call::Decode => {
             let (number, decoded) = meter.measure(|| second::fascn_decode(input));
             numbers = decoded;
@@ -208,7 +245,7 @@ fn agree(case: &Case) {
     let answers = (prosianek(case, &mut one, &mut Made), rust(case, &mut other, &mut Made));
     assert!(answers.0 == answers.1 && one[..] == other[..], "{} {}: the answers differ: {:?}", case.what, case.name, answers);
     let short = if case.name == NO_ROOM && case.number == 0 { 3 } else { 0 };
-    let tag = if matches!(case.call, Call::Check | Call::Write) { second::NO_TAG } else { 0 };
+    let tag = if matches!(case.call, Call::Check | Call::Write | Call::Lists) { second::NO_TAG } else { 0 };
     let said = &answers.0[..4];
     assert!(said == [case.number, 0, tag, short], "{} {}: answered {:?}", case.what, case.name, said);
 }
@@ -346,8 +383,16 @@ fn with_minutiae(value: &[u8], count: u8) -> Vec<u8> {
     value
 }
 
+/// How many points a container with fingers has.
+fn points_in(container: &[u8]) -> usize {
+    let mut list = [second::Point::default(); second::points::MOST_POINTS];
+    let (verdict, [first, second]) = second::points(TODAY, container, &mut list);
+    assert!(verdict == CONFORMS, "no conforming fingers: {:?}", verdict);
+    (first + second) as usize
+}
+
 /// The calls on a container. A check is made without a room and with one as long as the sheet; the room of write is as long as the
-/// container, and report's has its 512 bytes.
+/// container, and report's has its 512 bytes. Lists are filled with fingers' points, and have as many entries.
 fn container_cases(what: &str, kind: u64, container: &[u8]) -> Vec<Case> {
     let sheet = sheet_of(kind, container);
     let what = format!("{}{}, {} bytes", kind_of(kind).unwrap().name, what, commas(container.len() as u64));
@@ -362,12 +407,27 @@ fn container_cases(what: &str, kind: u64, container: &[u8]) -> Vec<Case> {
         room,
         number: 0,
     };
-    vec![
+    let mut cases = vec![
         case(NO_ROOM, Call::Check, container, 0),
         case("check, sheet", Call::Check, container, sheet.len()),
         case("write", Call::Write, &sheet, container.len()),
         case("report", Call::Report, container, second::REPORT_MAX),
-    ]
+    ];
+    if kind == FINGERS {
+        cases.push(case("lists", Call::Lists, container, room_of_lists(points_in(container))));
+    }
+    cases
+}
+
+/// The lists of a container with so many points in each view, and its check, which goes over each point too. The signature has
+/// one byte.
+fn point_cases(count: u8) -> Vec<Case> {
+    let mut values = values_of(FINGERS, &sample(FINGERS));
+    values[0] = values[0].take().map(|value| with_minutiae(&value, count));
+    let container = container_of(FINGERS, &values);
+    let mut cases = container_cases(&format!(" of {} + {} points", count, count), FINGERS, &container);
+    cases.retain(|case| case.name == NO_ROOM || matches!(case.call, Call::Lists));
+    cases
 }
 
 /// The calls on a face with as many images as a container can hold, 32 bytes each.
@@ -462,6 +522,7 @@ fn tables() -> Vec<(&'static str, Vec<Case>)> {
     let sizes = [1, 2, 4, 8, 16, 32].iter().map(|kib| kib * 1024);
     let growth = sizes.flat_map(|size| container_cases("", CHUID, &stretched(CHUID, &chuid, size))).collect();
     let items = [500, 1_000, 2_000, 4_000, 8_000, 16_000].iter().flat_map(|&items| item_cases(items)).collect();
+    let points = [0, 16, 32, 64, 128].iter().flat_map(|&count| point_cases(count)).collect();
     let forms = [(CHUID, sample_named("chuid-longer")), (FINGERS, sample(FINGERS)), (PIVAUTH, sample(PIVAUTH))];
     let forms = forms.iter().flat_map(|(kind, container)| form_cases(*kind, container)).collect();
     vec![
@@ -469,6 +530,7 @@ fn tables() -> Vec<(&'static str, Vec<Case>)> {
         ("Lengths in fewest bytes and in longer forms", forms),
         ("From 1 KiB to 32 KiB", growth),
         ("From 500 to 16,000 items of a certificate", items),
+        ("By the number of points", points),
         ("The date check, day by day", day_cases()),
     ]
 }

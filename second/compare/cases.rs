@@ -1,14 +1,20 @@
 //! The worked cases of tests/cases, whose README.md says how they are written: each call is made by both programs. The inputs of
 //! the desk program are put into a folder, from where tests/worked-cases gives them to it.
 
+use crate::points::{by_library, by_second, Told};
 use crate::trial::{Fault, Trial};
 use second::batch::{Answer, Call, Record};
+use second::generate::plain;
+use second::points::KIND;
+use second::Point;
 use std::collections::BTreeMap;
 use std::fs;
 
 /// What a case asks, and the answer that it gives.
 enum Case {
     Called(Record, Answer),
+    /// Today, the container, and what is told of its points with a list of so many.
+    Points(u64, Vec<u8>, Told),
     /// Standard input, and what is printed.
     Desk(Vec<u8>, Vec<u8>),
 }
@@ -45,14 +51,40 @@ impl Names {
         if call == "desk" {
             return Ok(Case::Desk(self.bytes(asked)?, text(told)));
         }
-        let record = self.record(call, asked)?;
+        if call == "points" {
+            return self.points(asked, told);
+        }
+        let record = if call == "lists" { self.lists(asked)? } else { self.record(call, asked)? };
         let answer = self.answer(call, &record, told)?;
         Ok(Case::Called(record, answer))
     }
 
+    /// A list of points, each written as its five numbers. It is told whole.
+    fn points(&self, asked: &[&str], told: &[&str]) -> Outcome<Case> {
+        let (today, size) = (number(asked.first())?, number(asked.get(1))? as usize);
+        let verdict = (number(told.first())?, number(told.get(1))?, tag(told.get(2))?);
+        let counts = [number(told.get(3))?, number(told.get(4))?];
+        let list = told[5..].iter().map(|word| point(word)).collect::<Outcome<Vec<_>>>()?;
+        if list.len() != size {
+            return Err(format!("{} points in a list of {}", list.len(), size));
+        }
+        Ok(Case::Points(today, self.bytes(&asked[2..])?, (verdict, counts, list)))
+    }
+
+    /// The five lists of a call that has no kind.
+    fn lists(&self, asked: &[&str]) -> Outcome<Record> {
+        let mut lists = [0; 5];
+        for (i, size) in lists.iter_mut().enumerate() {
+            *size = number(asked.get(1 + i))? as usize;
+        }
+        let record = plain(Call::Lists, KIND, self.bytes(&asked[6..])?);
+        Ok(Record { today: number(asked.first())?, lists, fill: 0xFF, ..record })
+    }
+
     fn record(&self, call: &str, asked: &[&str]) -> Outcome<Record> {
         let (kind, today) = (number(asked.first())?, number(asked.get(1))?);
-        let record = |call, element, room, bytes| Record { call, kind, today, element, room, fill: 0xFF, bytes };
+        let record =
+            |call, element, room, bytes| Record { today, element, room, fill: 0xFF, ..plain(call, kind, bytes) };
         let room = || number(asked.get(2)).map(|room| room as usize);
         Ok(match call {
             "verdict" => record(Call::Check, 0, 0, self.bytes(&asked[2..])?),
@@ -82,6 +114,10 @@ impl Names {
                 Ok(Answer { offset, length, part: part.to_vec(), ..answer })
             }
             ("write", output) => self.with_output(answer, record.room, output),
+            ("lists", [first, second, lists @ ..]) => {
+                let counts = [number(Some(first))?, number(Some(second))?];
+                Ok(Answer { counts, lists: whole_lists(record.lists, lists)?, ..answer })
+            }
             _ => Err("an answer of another form".to_string()),
         }
     }
@@ -122,6 +158,33 @@ impl Names {
 fn number(word: Option<&&str>) -> Outcome<u64> {
     let word = word.ok_or("a number is missing")?;
     word.parse().map_err(|_| format!("no number: {}", word))
+}
+
+/// Numbers with commas between.
+fn numbers(word: &str) -> Outcome<Vec<u64>> {
+    word.split(',').map(|word| number(Some(&word))).collect()
+}
+
+fn point(word: &str) -> Outcome<Point> {
+    match numbers(word)?[..] {
+        [sort, x, y, angle, quality] => Ok(Point { sort, x, y, angle, quality }),
+        _ => Err(format!("no point: {}", word)),
+    }
+}
+
+/// Lists of these lengths, each told whole. An empty one has no word.
+fn whole_lists(sizes: [usize; 5], told: &[&str]) -> Outcome<[Vec<u64>; 5]> {
+    let (mut lists, mut words) = (<[Vec<u64>; 5]>::default(), told.iter());
+    for (list, size) in lists.iter_mut().zip(sizes).filter(|(_, size)| *size > 0) {
+        *list = numbers(words.next().ok_or("a list is missing")?)?;
+        if list.len() != size {
+            return Err(format!("{} numbers in a list of {}", list.len(), size));
+        }
+    }
+    match words.next() {
+        None => Ok(lists),
+        Some(word) => Err(format!("a list too many: {}", word)),
+    }
 }
 
 fn hex_number(word: Option<&&str>) -> Outcome<u64> {
@@ -178,6 +241,18 @@ impl Running<'_> {
                 }
                 let outcome = self.trial.run(record, expected, &Fault::None);
                 outcome.map_err(|wrong| format!("the library: {}", self.trial.tell(record, wrong)))
+            }
+            Case::Points(today, container, expected) => {
+                let size = expected.2.len();
+                for (who, told) in [
+                    ("second program", by_second(*today, container, size)),
+                    ("library", by_library(*today, container, size)),
+                ] {
+                    if told != *expected {
+                        return Err(format!("the {} answers {:?}", who, told));
+                    }
+                }
+                Ok(())
             }
             Case::Desk(input, expected) => {
                 self.desk += 1;

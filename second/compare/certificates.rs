@@ -5,7 +5,7 @@
 use crate::trial::{Fault, Trial};
 use second::batch::{Answer, Call, Record};
 use second::card::{length_at, CONFORMS};
-use second::generate::{certificate_kinds, Form, Forms, EXAMPLE_DAY};
+use second::generate::{certificate_kinds, plain, Form, Forms};
 use second::samples::certificate;
 use second::trees::Tree;
 use second::values::CERTIFICATE_LEVELS;
@@ -114,7 +114,7 @@ impl Judging {
 }
 
 fn given(call: Call, kind: u64, bytes: Vec<u8>) -> Record {
-    Record { call, kind, today: EXAMPLE_DAY, element: 0, room: 0, fill: 0xFF, bytes }
+    Record { fill: 0xFF, ..plain(call, kind, bytes) }
 }
 
 /// Judges the certificate in each file, tells what is wrong, and gives whether nothing is.

@@ -7,7 +7,7 @@
 //!     compare cases FOLDER FILE..     worked cases; the inputs of the desk program are put into the folder
 //!     compare certificates FILE..     certificates in DER, as they are and damaged
 
-use second::batch::{Answer, Record, Tally};
+use second::batch::{Answer, Call, Record, Tally};
 use second::generate::{sweep, Inputs};
 use second::named;
 use std::process::exit;
@@ -15,6 +15,7 @@ use std::process::exit;
 mod cases;
 mod certificates;
 mod planted;
+mod points;
 #[path = "../../examples/rust/prosianek.rs"]
 mod prosianek;
 mod trial;
@@ -44,6 +45,16 @@ impl Comparison {
         match self.trial.run(record, expected, &Fault::None) {
             Ok(()) => self.tally.count(record.call, expected),
             Err(wrong) => self.differs(|trial| trial.tell(record, wrong)),
+        }
+        if record.call == Call::Lists {
+            self.compare_points(record);
+        }
+    }
+
+    /// The list of points has to be the same on both sides, too: one as long as the first of the five lists.
+    fn compare_points(&mut self, record: &Record) {
+        if let Some(told) = points::difference(record.today, &record.bytes, record.lists[0]) {
+            self.differs(|_| format!("{}\n  {}", told, call_text(record)));
         }
     }
 

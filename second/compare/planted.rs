@@ -1,14 +1,15 @@
 //! The comparison is tried itself: faults are planted in calls of every sort, one at a time, and each has to be seen at
 //! the byte where it was planted. So are the tags that a mistaken program would name, in calls on every fault of a container or
 //! a sheet, the places that one would give which takes every length for one in fewest bytes, and the numbers of one that judges a
-//! printed date, a facial or an iris record by another rule, or that still answers 8 to a report. 8 and 9 are planted on both
-//! sides too, where nothing differs.
+//! printed date, a facial or an iris record by another rule, or that still answers 8 to a report. So are the counts and the
+//! entries of one that takes points apart wrongly. 8 and 9 are planted on both sides too, where nothing differs.
 
-use crate::trial::{call_text, native, Fault, Sort, Stretch, Trial, Wrong};
+use crate::trial::{call_text, native, Fault, Sort, Stretch, Trial, Wrong, LISTS};
 use second::batch::{Answer, Call, Record};
 use second::card::{kind_of, length_at, walk};
 use second::generate::{fewest, Inputs, Rng};
-use second::{dates, faces, faults, irises, lengths, longest, tag_number, NO_TAG};
+use second::points::MOST_POINTS;
+use second::{dates, faces, faults, fingers, irises, lengths, longest, points, tag_number, Point, NO_TAG};
 use std::collections::BTreeMap;
 use std::ops::Range;
 
@@ -19,8 +20,26 @@ const CALLS: usize = 300;
 const SHOWN: usize = 5;
 
 /// Faults are planted in each of these.
-const STRETCHES: [&str; 11] =
-    ["number", "place", "tag", "short", "offset", "length", "part", "numbers", "room", "input", "guard"];
+const STRETCHES: [&str; 18] = [
+    "number",
+    "place",
+    "tag",
+    "short",
+    "offset",
+    "length",
+    "part",
+    "numbers",
+    "room",
+    "types",
+    "xs",
+    "ys",
+    "angles",
+    "qualities",
+    "first",
+    "second",
+    "input",
+    "guard",
+];
 
 /// A fault, in words too, and what has to be seen of it.
 type Planted = (&'static str, Fault, Wrong);
@@ -78,7 +97,7 @@ fn faults_of_both(stretch: &Stretch) -> Vec<Planted> {
 }
 
 /// The mistakes that are made in a number that is lent, each with the name of that.
-const MISTAKES: [(&str, &str); 28] = [
+const MISTAKES: [(&str, &str); 59] = [
     ("number", "16 for no date"),
     ("number", "23 for no date"),
     ("number", "19 for a length"),
@@ -91,6 +110,9 @@ const MISTAKES: [(&str, &str); 28] = [
     ("number", "8 for a report"),
     ("number", "8 for a small room"),
     ("number", "8 for a large container"),
+    ("number", "0 for a short list"),
+    ("number", "3 before the check"),
+    ("number", "3 for a list that is just long enough"),
     ("number", "8 on both sides"),
     ("number", "9 on both sides"),
     ("short", "8 on both sides"),
@@ -107,6 +129,34 @@ const MISTAKES: [(&str, &str); 28] = [
     ("tag", "the element's that is asked for"),
     ("place", "as in fewest bytes"),
     ("offset", "as in fewest bytes"),
+    ("first", "the other view's"),
+    ("first", "of both views"),
+    ("first", "beside a refusal"),
+    ("second", "the other view's"),
+    ("second", "of both views"),
+    ("second", "beside a refusal"),
+    ("types", "the second view first"),
+    ("types", "not zero behind the last"),
+    ("types", "left by a refusal"),
+    ("xs", "the second view first"),
+    ("xs", "not zero behind the last"),
+    ("xs", "left by a refusal"),
+    ("ys", "the second view first"),
+    ("ys", "not zero behind the last"),
+    ("ys", "left by a refusal"),
+    ("angles", "the second view first"),
+    ("angles", "not zero behind the last"),
+    ("angles", "left by a refusal"),
+    ("qualities", "the second view first"),
+    ("qualities", "not zero behind the last"),
+    ("qualities", "left by a refusal"),
+    ("types", "as bits of the byte"),
+    ("xs", "with the type"),
+    ("xs", "y"),
+    ("ys", "x"),
+    ("angles", "in degrees"),
+    ("angles", "the quality"),
+    ("qualities", "the angle"),
 ];
 
 /// The tag of the last element before the first fault of a container, or before the end; and that of the mandatory row which has
@@ -175,7 +225,7 @@ fn spare_before(record: &Record, offset: u64) -> u64 {
 
 /// The place or the offset that a program would give which takes every length for one in fewest bytes.
 fn mistaken_places(record: &Record, expected: &Answer) -> Vec<(&'static str, u64)> {
-    if !matches!(record.call, Call::Check | Call::View) {
+    if !matches!(record.call, Call::Check | Call::View | Call::Lists) {
         return Vec::new();
     }
     let both = [("place", expected.place), ("offset", expected.offset)];
@@ -199,8 +249,10 @@ fn withdrawn_number(expected: &Answer) -> Vec<(&'static str, u64)> {
 /// and of one that does not look at a facial or an iris record, takes it for a part of the header or for that of another kind, or asks
 /// for it first.
 fn mistaken_numbers(record: &Record, expected: &Answer) -> Vec<(&'static str, u64)> {
-    if record.call == Call::Report {
-        return withdrawn_number(expected);
+    match record.call {
+        Call::Report => return withdrawn_number(expected),
+        Call::Lists => return mistaken_for_lists(record, expected),
+        _ => (),
     }
     match (record.kind, expected.tag, expected.number) {
         (4, Some(0x04), 19) => vec![("16 for no date", 16), ("23 for no date", 23)],
@@ -211,6 +263,118 @@ fn mistaken_numbers(record: &Record, expected: &Answer) -> Vec<(&'static str, u6
         (12, Some(0xBC), 17 | 21) => vec![("27 for a header", 27)],
         _ => Vec::new(),
     }
+}
+
+/// The numbers of a program that does not look at a list's length, looks at it first, or asks for an entry more than it needs.
+fn mistaken_for_lists(record: &Record, expected: &Answer) -> Vec<(&'static str, u64)> {
+    let just = expected.counts.iter().sum::<u64>() as usize;
+    match expected.number {
+        0 if record.lists.contains(&just) => vec![("3 for a list that is just long enough", 3)],
+        0 => Vec::new(),
+        3 => vec![("0 for a short list", 0)],
+        _ if record.lists.contains(&0) => vec![("3 before the check", 3)],
+        _ => Vec::new(),
+    }
+}
+
+/// A number that a mistaken program would answer instead of the right one: at this entry of the stretch of this name.
+struct Mistake {
+    name: &'static str,
+    how: &'static str,
+    entry: usize,
+    number: u64,
+    right: u64,
+}
+
+/// The counts and the points of a container that conforms, whether or not the lists of the call hold them.
+fn points_of(record: &Record) -> ([u64; 2], Vec<Point>) {
+    let mut list = [Point::default(); MOST_POINTS];
+    let (_, counts) = points::points(record.today, &record.bytes, &mut list);
+    (counts, list[..counts.iter().sum::<u64>() as usize].to_vec())
+}
+
+/// The counts of a program that takes one view for the other, or both for one, or that gives them beside a refusal.
+fn mistaken_counts(record: &Record, expected: &Answer) -> Vec<Mistake> {
+    let (counts, _) = points_of(record);
+    let sum = counts[0] + counts[1];
+    let mut out = Vec::new();
+    for (i, name) in ["first", "second"].into_iter().enumerate() {
+        let right = expected.counts[i];
+        let mistake = |how, number| Mistake { name, how, entry: 0, number, right };
+        if expected.number == 0 {
+            out.extend([mistake("the other view's", counts[1 - i]), mistake("of both views", sum)]);
+        } else {
+            out.push(mistake("beside a refusal", counts[i]));
+        }
+    }
+    out
+}
+
+/// What is wrong with a point's number in one of the five lists, in that order.
+fn mistaken_numbers_of(point: &Point) -> [Vec<(&'static str, u64)>; 5] {
+    let Point { sort, x, y, angle, quality } = *point;
+    [
+        vec![("as bits of the byte", sort << 6)],
+        vec![("with the type", sort << 14 | x), ("y", y)],
+        vec![("x", x)],
+        vec![("in degrees", 2 * angle), ("the quality", quality)],
+        vec![("the angle", angle)],
+    ]
+}
+
+fn numbers_of(point: &Point) -> [u64; 5] {
+    [point.sort, point.x, point.y, point.angle, point.quality]
+}
+
+/// The entries of a program that takes the last point apart wrongly or the views in the wrong order, leaves a point behind the
+/// last one, or leaves the first where the lists are too short.
+fn mistaken_entries(record: &Record, expected: &Answer) -> Vec<Mistake> {
+    let (counts, points) = points_of(record);
+    let last = match points.last() {
+        Some(last) => last,
+        None => return Vec::new(),
+    };
+    let mut out = Vec::new();
+    for (i, name) in LISTS.into_iter().enumerate() {
+        let list = &expected.lists[i];
+        let mut add = |how, entry: usize, number| {
+            out.extend(list.get(entry).map(|&right| Mistake { name, how, entry, number, right }))
+        };
+        if expected.number == 0 {
+            for &(how, number) in &mistaken_numbers_of(last)[i] {
+                add(how, points.len() - 1, number);
+            }
+            if let Some(point) = points.get(counts[0] as usize) {
+                add("the second view first", 0, numbers_of(point)[i]);
+            }
+            add("not zero behind the last", points.len(), numbers_of(last)[i]);
+        } else {
+            add("left by a refusal", 0, numbers_of(&points[0])[i]);
+        }
+    }
+    out
+}
+
+/// All mistakes in a call: numbers, tags, places and offsets, counts and entries.
+fn mistakes(record: &Record, expected: &Answer) -> Vec<Mistake> {
+    let mut out = Vec::new();
+    let mut add = |name, how, number, right| out.push(Mistake { name, how, entry: 0, number, right });
+    for (how, number) in mistaken_numbers(record, expected) {
+        add("number", how, number, expected.number);
+    }
+    for (how, tag) in mistaken_tags(record, expected) {
+        add("tag", how, tag, tag_number(expected.tag));
+    }
+    for (name, place) in mistaken_places(record, expected) {
+        add(name, "as in fewest bytes", place, if name == "place" { expected.place } else { expected.offset });
+    }
+    if record.call == Call::Lists {
+        out.extend(mistaken_counts(record, expected));
+        out.extend(mistaken_entries(record, expected));
+    }
+    // where a mistake makes no difference it is none
+    out.retain(|mistake| mistake.number != mistake.right);
+    out
 }
 
 /// Whether every other stretch stands between guards of at least 64 bytes.
@@ -262,37 +426,25 @@ impl Trying {
         Ok(())
     }
 
-    /// Plants each mistaken number, tag, place and offset of a call. Before that nothing is wrong, or it is told.
+    /// Plants each mistake in a call. Before that nothing is wrong, or it is told.
     fn plant_mistakes(&mut self, record: &Record) -> Result<(), Wrong> {
         let expected = record.answer();
         self.trial.run(record, &expected, &Fault::None)?;
-        for (how, number) in mistaken_numbers(record, &expected) {
-            self.plant_mistake(record, &expected, ("number", how), number, expected.number);
-        }
-        for (how, tag) in mistaken_tags(record, &expected) {
-            self.plant_mistake(record, &expected, ("tag", how), tag, tag_number(expected.tag));
-        }
-        for (name, place) in mistaken_places(record, &expected) {
-            let right = if name == "place" { expected.place } else { expected.offset };
-            self.plant_mistake(record, &expected, (name, "as in fewest bytes"), place, right);
+        for mistake in mistakes(record, &expected) {
+            self.plant_mistake(record, &expected, &mistake);
         }
         Ok(())
     }
 
-    /// Plants this number in the place of the right one, where the call is lent one of that name.
-    fn plant_mistake(
-        &mut self,
-        record: &Record,
-        expected: &Answer,
-        (name, how): (&'static str, &'static str),
-        number: u64,
-        right: u64,
-    ) {
+    /// Plants a number in the place of the right one, where the call is lent one of that name.
+    fn plant_mistake(&mut self, record: &Record, expected: &Answer, mistake: &Mistake) {
+        let &Mistake { name, how, entry, number, right } = mistake;
         let stretch = self.trial.stretches().iter().find(|stretch| stretch.name == name);
-        if let Some(range) = stretch.map(|stretch| stretch.range.clone()) {
+        if let Some(start) = stretch.map(|stretch| stretch.range.start + 8 * entry) {
             let (wrong, right) = (native(&[number]), native(&[right]));
-            let at = range.start + wrong.iter().zip(&right).take_while(|(wrong, right)| wrong == right).count();
-            self.expect_seen(record, expected, name, (how, Fault::Mistaken(range, number), Wrong::Answer(at)));
+            let at = start + wrong.iter().zip(&right).take_while(|(wrong, right)| wrong == right).count();
+            let fault = Fault::Mistaken(start..start + 8, number);
+            self.expect_seen(record, expected, name, (how, fault, Wrong::Answer(at)));
         }
     }
 
@@ -316,7 +468,8 @@ impl Trying {
             println!("  {}: {}", what, texts.join(" "));
         }
         let mistaken = |name, how| self.planted.get(&(how, name)).copied().unwrap_or_default();
-        for which in ["number", "short", "tag", "place", "offset"] {
+        let numbers = ["number", "short", "tag", "place", "offset", "first", "second"];
+        for which in numbers.into_iter().chain(LISTS) {
             let here = MISTAKES.iter().filter(|(name, _)| *name == which);
             let texts: Vec<String> = here.map(|&(name, how)| format!("{}: {}", how, mistaken(name, how))).collect();
             println!("  another {}, {}", which, texts.join(", "));
@@ -331,7 +484,15 @@ impl Trying {
 /// Plants the faults and gives whether all were seen.
 pub fn all_seen(seed: u64) -> bool {
     let mut trying = Trying { trial: Trial::new(!seed), rng: Rng::new(seed), planted: BTreeMap::new(), unseen: 0 };
-    let edges = [dates::records, faces::records, irises::records, faults::records, lengths::records, longest::records];
+    let edges = [
+        dates::records,
+        faces::records,
+        fingers::records,
+        irises::records,
+        faults::records,
+        lengths::records,
+        longest::records,
+    ];
     let with_faults: Vec<Record> = edges.iter().flat_map(|records| records()).collect();
     let made = calls(seed);
     let planting = made.iter().map(|record| (record, true)).chain(with_faults.iter().map(|record| (record, false)));
@@ -343,8 +504,8 @@ pub fn all_seen(seed: u64) -> bool {
         }
     }
     println!(
-        "faults planted in {} calls of every sort, and mistakes in {} on dates, faces, irises, faults, longer forms and long \
-         reports, one at a time:",
+        "faults planted in {} calls of every sort, and mistakes in {} on dates, faces, fingers, irises, faults, longer forms \
+         and long reports, one at a time:",
         made.len(),
         with_faults.len()
     );

@@ -5,7 +5,7 @@
 //! expected there, and none is zero, nor is one in the guards: so a byte that is not written shows, and one too many.
 
 use crate::prosianek::*;
-use second::batch::{Answer, Call, Record, BYTES_MAX, ROOM_MAX};
+use second::batch::{Answer, Call, Record, BYTES_MAX, LIST_MAX, ROOM_MAX};
 use second::generate::Rng;
 use second::{number, tag_number};
 use std::ops::Range;
@@ -13,10 +13,13 @@ use std::ops::Range;
 /// A guard has this many bytes, or a few more.
 const GUARD: usize = 64;
 
-/// Enough for the largest input and the largest room, with ten guards and numbers.
-const MEMORY: usize = BYTES_MAX + ROOM_MAX + 20 * GUARD;
+/// Enough for the largest input with the largest room or the five longest lists, and for a dozen guards and numbers.
+const MEMORY: usize = BYTES_MAX + ROOM_MAX + 5 * 8 * LIST_MAX + 20 * GUARD;
 
-/// A number is lent by an address that is a multiple of eight.
+/// The five lists of numbers that are filled with points, in their order.
+pub const LISTS: [&str; 5] = ["types", "xs", "ys", "angles", "qualities"];
+
+/// A number is lent by an address that is a multiple of eight, and so is a list of them.
 #[repr(align(8))]
 struct Memory([u8; MEMORY]);
 
@@ -91,6 +94,11 @@ fn lent(call: Call, expected: &Answer) -> Vec<(&'static str, Vec<u8>)> {
         Call::Write => vec![room(), place(), tag(), length()],
         Call::View => vec![place(), tag(), ("offset", native(&[expected.offset])), length()],
         Call::Report => vec![room(), length()],
+        Call::Lists => {
+            let lists = LISTS.iter().zip(&expected.lists).map(|(&name, list)| (name, native(list)));
+            let [first, second] = expected.counts;
+            lists.chain([place(), tag(), ("first", native(&[first])), ("second", native(&[second]))]).collect()
+        }
         Call::FascnDecode => vec![("numbers", native(&expected.numbers))],
         Call::FascnEncode => vec![room()],
     }
@@ -238,6 +246,30 @@ impl Trial {
                     prosianek_view(kind, today, input, size, record.element, place, tag, offset, length)
                 }
                 Call::Report => prosianek_report(kind, today, input, size, at("room"), room, lent("length")),
+                Call::Lists => {
+                    let [types, xs, ys, angles, qualities] = LISTS.map(lent);
+                    let [of_types, of_xs, of_ys, of_angles, of_qualities] = record.lists;
+                    let (place, tag, first, second) = (lent("place"), lent("tag"), lent("first"), lent("second"));
+                    prosianek_lists(
+                        today,
+                        input,
+                        size,
+                        types,
+                        of_types,
+                        xs,
+                        of_xs,
+                        ys,
+                        of_ys,
+                        angles,
+                        of_angles,
+                        qualities,
+                        of_qualities,
+                        place,
+                        tag,
+                        first,
+                        second,
+                    )
+                }
                 Call::FascnDecode => prosianek_fascn_decode(input, size, at("numbers") as *mut [u64; 9]),
                 Call::FascnEncode => prosianek_fascn_encode(input as *const [u64; 9], at("room"), room),
             }
@@ -316,7 +348,7 @@ impl Trial {
             let bytes = &memory[stretch.range.clone()];
             let text = match stretch.name {
                 "room" | "part" => hex(bytes),
-                _ => numbers(bytes).iter().map(u64::to_string).collect::<Vec<_>>().join(" "),
+                _ => decimal(&numbers(bytes)),
             };
             format!("{} {}", stretch.name, text)
         };
@@ -358,8 +390,9 @@ impl Trial {
     }
 }
 
-/// So many hex digits of an input or a room are shown.
+/// So many hex digits of an input or a room are shown, and so many numbers of a list.
 const DIGITS_SHOWN: usize = 200;
+const NUMBERS_SHOWN: usize = 20;
 
 fn hex(bytes: &[u8]) -> String {
     let shown = &bytes[..bytes.len().min(DIGITS_SHOWN / 2)];
@@ -368,14 +401,24 @@ fn hex(bytes: &[u8]) -> String {
     format!("{}{} ({} bytes)", digits, more, bytes.len())
 }
 
+fn decimal(numbers: &[u64]) -> String {
+    let shown = &numbers[..numbers.len().min(NUMBERS_SHOWN)];
+    let more = if shown.len() < numbers.len() { format!(" ... ({} numbers)", numbers.len()) } else { String::new() };
+    shown.iter().map(u64::to_string).collect::<Vec<_>>().join(" ") + &more
+}
+
 pub fn call_text(record: &Record) -> String {
+    let lent = match record.call {
+        Call::Lists => format!("lists {:?}", record.lists),
+        _ => format!("room {}", record.room),
+    };
     format!(
-        "{}: kind {}, today {}, element {}, room {}, input {}",
+        "{}: kind {}, today {}, element {}, {}, input {}",
         record.call.name(),
         record.kind,
         record.today,
         record.element,
-        record.room,
+        lent,
         hex(&record.bytes)
     )
 }

@@ -1,7 +1,7 @@
 //! The calls of a batch, what is answered to them, and how often each number is.
 
 use crate::card::{self, Checked};
-use crate::{number, report, values};
+use crate::{number, points, report, values};
 use std::collections::BTreeMap;
 use std::fmt;
 
@@ -11,13 +11,14 @@ pub enum Call {
     Write,
     View,
     Report,
+    Lists,
     FascnDecode,
     FascnEncode,
 }
 
 impl Call {
-    pub const ALL: [Call; 6] =
-        [Call::Check, Call::Write, Call::View, Call::Report, Call::FascnDecode, Call::FascnEncode];
+    pub const ALL: [Call; 7] =
+        [Call::Check, Call::Write, Call::View, Call::Report, Call::Lists, Call::FascnDecode, Call::FascnEncode];
 
     pub fn name(self) -> &'static str {
         match self {
@@ -25,26 +26,32 @@ impl Call {
             Call::Write => "write",
             Call::View => "view",
             Call::Report => "report",
+            Call::Lists => "lists",
             Call::FascnDecode => "decode",
             Call::FascnEncode => "encode",
         }
     }
 }
 
-/// No record has a larger room, or more bytes.
+/// No record has a larger room, more bytes, or a list of more numbers.
 pub const ROOM_MAX: usize = 70_000;
 pub const BYTES_MAX: usize = 66_000;
+pub const LIST_MAX: usize = 1_000;
 
 /// A call with all that it is given.
 #[derive(Clone, Debug, PartialEq, Eq)]
 pub struct Record {
     pub call: Call,
+    /// The call that fills lists has none: there it is [`points::KIND`], by which that call checks.
     pub kind: u64,
     pub today: u64,
     /// The tag of the element that a view asks for.
     pub element: u64,
-    /// The size of the room, and what it holds before the second program's call.
+    /// The size of the room.
     pub room: usize,
+    /// How many numbers each of the five lists has.
+    pub lists: [usize; 5],
+    /// What the room or the lists hold before the second program's call, in each byte.
     pub fill: u8,
     /// The container, the sheet or the FASC-N; nine numbers of eight bytes for an encoding.
     pub bytes: Vec<u8>,
@@ -69,6 +76,10 @@ pub struct Answer {
     pub numbers: [u64; 9],
     /// The whole room, to its end.
     pub room: Vec<u8>,
+    /// How many points the first view has, and the second.
+    pub counts: points::Counts,
+    /// Their types, x, y, angles and qualities: each list whole, to its end.
+    pub lists: [Vec<u64>; 5],
 }
 
 impl Record {
@@ -103,6 +114,13 @@ impl Record {
             Call::Report => {
                 let (number, length) = report::report(kind, today, bytes, &mut room);
                 Answer { number, length, room, ..Answer::default() }
+            }
+            Call::Lists => {
+                let old = u64::from_ne_bytes([self.fill; 8]);
+                let mut lists = self.lists.map(|size| vec![old; size]);
+                let [types, xs, ys, angles, qualities] = &mut lists;
+                let ((number, place, tag), counts) = points::lists(today, bytes, [types, xs, ys, angles, qualities]);
+                Answer { number, place, tag, counts, lists, ..Answer::default() }
             }
             Call::FascnDecode => {
                 let (number, numbers) = values::fascn_decode(bytes);

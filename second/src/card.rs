@@ -11,7 +11,7 @@ pub type Verdict = (u64, u64, Option<u16>);
 pub const CONFORMS: Verdict = without_place(number::DONE);
 
 /// A number that carries no place, and so no tag.
-const fn without_place(number: u64) -> Verdict {
+pub(crate) const fn without_place(number: u64) -> Verdict {
     (number, 0, None)
 }
 
@@ -320,7 +320,7 @@ where
 }
 
 /// All that check asks, before the elements go to `element`.
-fn checked<F>(kind: u64, today: u64, container: &[u8], element: F) -> Result<&'static Kind, Verdict>
+pub(crate) fn checked<F>(kind: u64, today: u64, container: &[u8], element: F) -> Result<&'static Kind, Verdict>
 where
     F: FnMut(usize, usize, usize),
 {

@@ -3,7 +3,8 @@
 use crate::batch::{Call, Record, BYTES_MAX, ROOM_MAX};
 use crate::card::{self, all_kinds, Rule, LAST_KIND, ROWS_MAX};
 use crate::values::{self, fascn_encode, fascn_pack, fascn_values, is_date, Format, FACE, FINGERS, IRIS};
-use crate::{dates, faces, faults, irises, lengths, longest, trees, CONTAINER_MAX, NO_TAG, REPORT_MAX, SHEET_ROOM};
+use crate::{dates, faces, faults, fingers, irises, lengths, longest, trees};
+use crate::{CONTAINER_MAX, NO_TAG, REPORT_MAX, SHEET_ROOM};
 
 /// splitmix64.
 pub struct Rng(u64);
@@ -244,7 +245,7 @@ fn nearly_date(rng: &mut Rng) -> u64 {
     year * 10_000 + month * 100 + day
 }
 
-fn today(rng: &mut Rng) -> u64 {
+pub fn today(rng: &mut Rng) -> u64 {
     match rng.below(12) {
         0..=4 => 20260301,
         5 => rng.pick(&[10101, 99991231, 20240229, 20000229, 99931231, 99940101, 20251231, 20260101]),
@@ -319,17 +320,24 @@ fn biometric(rng: &mut Rng, format: &Format, data: &[u8], signature: usize) -> V
     out
 }
 
+/// A number of 14 bits.
+fn fourteen_bits(rng: &mut Rng) -> u16 {
+    if rng.one_in(6) {
+        rng.pick(&[0, 0x3FFF])
+    } else {
+        rng.word() as u16 & 0x3FFF
+    }
+}
+
 fn minutia(rng: &mut Rng, out: &mut Vec<u8>) {
-    out.push((rng.below(3) as u8) << 6 | rng.byte() & 0x3F);
-    out.push(rng.byte());
-    out.push(rng.byte() & 0x3F);
-    out.push(rng.byte());
+    out.extend(((rng.below(3) as u16) << 14 | fourteen_bits(rng)).to_be_bytes());
+    out.extend(fourteen_bits(rng).to_be_bytes());
     out.push(if rng.one_in(6) { rng.pick(&[0, 179]) } else { rng.below(180) as u8 });
     out.push(if rng.one_in(6) { rng.pick(&[0, 100]) } else { rng.below(101) as u8 });
 }
 
 /// A minutiae record; conforming if both counts are at most 128.
-fn minutiae(rng: &mut Rng, counts: [usize; 2]) -> Vec<u8> {
+pub fn minutiae(rng: &mut Rng, counts: [usize; 2]) -> Vec<u8> {
     let mut out = vec![0x46, 0x4D, 0x52, 0x00];
     out.extend(values::MINUTIAE_VERSION);
     out.extend(((38 + 6 * (counts[0] + counts[1])) as u16).to_be_bytes());
@@ -442,7 +450,7 @@ pub fn conforming_on(rng: &mut Rng, kind: u64, today: u64) -> Card {
 }
 
 /// A value of BC with these data bytes and a signature of any length.
-fn signed(rng: &mut Rng, format: &Format, data: &[u8]) -> Vec<u8> {
+pub fn signed(rng: &mut Rng, format: &Format, data: &[u8]) -> Vec<u8> {
     let signature = any_length(rng, 1, 4_000);
     biometric(rng, format, data, signature)
 }
@@ -1387,7 +1395,7 @@ fn strange_today(rng: &mut Rng, today: u64) -> u64 {
     }
 }
 
-fn any_fill(rng: &mut Rng) -> u8 {
+pub fn any_fill(rng: &mut Rng) -> u8 {
     if rng.one_in(2) {
         rng.pick(&[0x00, 0xFF, 0xAA])
     } else {
@@ -1462,7 +1470,7 @@ fn view_tag(rng: &mut Rng, kind: u64) -> u64 {
 /// How often each kind is made, beside the others. Those with a certificate, 8 to 11, have one table.
 const SHARES: [u64; LAST_KIND as usize] = [2, 3, 2, 2, 1, 4, 2, 2, 1, 1, 1, 2];
 
-fn any_kind(rng: &mut Rng) -> u64 {
+pub fn any_kind(rng: &mut Rng) -> u64 {
     let mut left = rng.below(SHARES.iter().sum());
     for (kind, share) in all_kinds().zip(SHARES) {
         if left < share {
@@ -1501,19 +1509,23 @@ impl Inputs {
 fn random_record(rng: &mut Rng) -> Record {
     let mut record = match rng.below(1_000) {
         0 | 1 => big_record(rng),
-        2..=11 => longest_record(rng),
-        12..=69 => fascn_decode_record(rng),
-        70..=119 => fascn_encode_record(rng),
-        120..=299 => write_record(rng),
+        2..=31 => longest_record(rng),
+        32..=89 => fascn_decode_record(rng),
+        90..=139 => fascn_encode_record(rng),
+        140..=319 => write_record(rng),
+        320..=419 => fingers::record(rng),
         _ => container_record(rng),
     };
     if matches!(record.call, Call::FascnDecode | Call::FascnEncode) {
         return record;
     }
-    if rng.one_in(40) {
-        record.kind = strange_kind(rng, record.kind);
-    } else if rng.one_in(50) {
-        record.kind = any_kind(rng);
+    // a call that fills lists has no kind
+    if record.call != Call::Lists {
+        if rng.one_in(40) {
+            record.kind = strange_kind(rng, record.kind);
+        } else if rng.one_in(50) {
+            record.kind = any_kind(rng);
+        }
     }
     if rng.one_in(25) {
         record.today = strange_today(rng, record.today);
@@ -1530,7 +1542,7 @@ fn edge_length(rng: &mut Rng) -> usize {
 }
 
 /// A container, conforming or damaged. One in three has its lengths in any forms, and mostly one that can have several.
-fn any_container(rng: &mut Rng, kind: u64) -> (Card, Vec<u8>) {
+pub fn any_container(rng: &mut Rng, kind: u64) -> (Card, Vec<u8>) {
     let mut card = conforming(rng, kind);
     let mut forms = Forms::all(Form::Fewest);
     if rng.one_in(3) {
@@ -1566,7 +1578,7 @@ fn any_container(rng: &mut Rng, kind: u64) -> (Card, Vec<u8>) {
 fn container_record(rng: &mut Rng) -> Record {
     let kind = any_kind(rng);
     let (card, bytes) = any_container(rng, kind);
-    let mut record = Record { call: Call::Check, kind, today: card.today, element: 0, room: 0, fill: 0, bytes };
+    let mut record = Record { today: card.today, ..plain(Call::Check, kind, bytes) };
     aim(rng, &mut record, &card);
     record
 }
@@ -1610,7 +1622,7 @@ fn write_record(rng: &mut Rng) -> Record {
         damage_sheet(rng, &mut sheet, &card);
     }
     let room = any_room(rng, card.container().len());
-    Record { call: Call::Write, kind, today: card.today, element: 0, room, fill: any_fill(rng), bytes: sheet }
+    Record { today: card.today, room, fill: any_fill(rng), ..plain(Call::Write, kind, sheet) }
 }
 
 /// A report that is as long as its kind has any, or nearly so, on a container that is mostly good, with a room at the edge.
@@ -1628,7 +1640,7 @@ fn longest_record(rng: &mut Rng) -> Record {
         _ => (),
     }
     let room = rng.pick(&longest::ROOMS);
-    Record { call: Call::Report, kind, today, element: 0, room, fill: any_fill(rng), bytes }
+    Record { today, room, fill: any_fill(rng), ..plain(Call::Report, kind, bytes) }
 }
 
 /// A container or a sheet near the limit of 32,768 bytes.
@@ -1655,7 +1667,7 @@ fn big_record(rng: &mut Rng) -> Record {
             _ => bytes.push(0),
         }
     }
-    let mut record = Record { call: Call::Check, kind, today: card.today, element: 0, room: 0, fill: 0, bytes };
+    let mut record = Record { today: card.today, ..plain(Call::Check, kind, bytes) };
     aim(rng, &mut record, &card);
     record
 }
@@ -1675,7 +1687,7 @@ fn big_write_record(rng: &mut Rng, mut card: Card) -> Record {
         damage_front(rng, &mut bytes);
     }
     bytes.truncate(BYTES_MAX);
-    Record { call: Call::Write, kind: card.kind, today: card.today, element: 0, room, fill: any_fill(rng), bytes }
+    Record { today: card.today, room, fill: any_fill(rng), ..plain(Call::Write, card.kind, bytes) }
 }
 
 /// Changes a bit of the first 201 bytes, or of all where there are fewer.
@@ -1695,7 +1707,7 @@ fn fascn_decode_record(rng: &mut Rng) -> Record {
         }
         _ => bytes = rng.bytes(25),
     }
-    Record { call: Call::FascnDecode, kind: 0, today: 0, element: 0, room: 0, fill: 0, bytes }
+    Record { today: 0, ..plain(Call::FascnDecode, 0, bytes) }
 }
 
 fn fascn_encode_record(rng: &mut Rng) -> Record {
@@ -1718,7 +1730,7 @@ fn fascn_encode_record(rng: &mut Rng) -> Record {
 
 fn encode_record(numbers: &[u64; 9], room: usize, fill: u8) -> Record {
     let bytes = numbers.iter().flat_map(|number| number.to_be_bytes()).collect();
-    Record { call: Call::FascnEncode, kind: 0, today: 0, element: 0, room, fill, bytes }
+    Record { today: 0, room, fill, ..plain(Call::FascnEncode, 0, bytes) }
 }
 
 // ---------------------------------------------------------------------------------------------
@@ -1798,9 +1810,9 @@ pub fn certificate_card(kind: u64, certificate: Vec<u8>, extra: Option<usize>) -
     Card { kind, today: EXAMPLE_DAY, rows }
 }
 
-/// A call on the example's day, without a room.
+/// A call on the example's day, without a room, or with empty lists.
 pub fn plain(call: Call, kind: u64, bytes: Vec<u8>) -> Record {
-    Record { call, kind, today: EXAMPLE_DAY, element: 0, room: 0, fill: 0, bytes }
+    Record { call, kind, today: EXAMPLE_DAY, element: 0, room: 0, lists: [0; 5], fill: 0, bytes }
 }
 
 /// Certificates at their edges, each kind in turn: of 70 itself, of the length of 72, and of the whole container.
@@ -1919,6 +1931,7 @@ fn fixed_records() -> Vec<Record> {
     out.extend(fixed_certificates());
     out.extend(dates::records());
     out.extend(faces::records());
+    out.extend(fingers::records());
     out.extend(irises::records());
     out.extend(faults::records());
     out.extend(lengths::records());
@@ -1933,18 +1946,24 @@ pub fn small_in_longest_forms() -> Vec<u8> {
 }
 
 /// Every container that differs from a small conforming one in one byte, and itself: checks, with a room that is as long as the
-/// sheet of that one.
+/// sheet of that one. And calls that fill lists, with as many entries as it has points.
 pub fn sweep<F: FnMut(&Record)>(mut take: F) {
     let small = all_kinds().map(|kind| (kind, small(kind)));
     for (kind, container) in small.chain([(5, small_in_longest_forms())]) {
         let room = sheet_length(kind, &container);
-        let mut record = Record { room, fill: 0xA5, ..plain(Call::Check, kind, container.clone()) };
-        for (at, &original) in container.iter().enumerate() {
-            for value in 0..=255 {
-                record.bytes[at] = value;
-                take(&record);
-            }
-            record.bytes[at] = original;
+        take_each_byte(Record { room, fill: 0xA5, ..plain(Call::Check, kind, container) }, &mut take);
+    }
+    take_each_byte(fingers::small_record(), &mut take);
+}
+
+/// The call with each value of each byte that it is given.
+fn take_each_byte<F: FnMut(&Record)>(mut record: Record, take: &mut F) {
+    for at in 0..record.bytes.len() {
+        let original = record.bytes[at];
+        for value in 0..=255 {
+            record.bytes[at] = value;
+            take(&record);
         }
+        record.bytes[at] = original;
     }
 }

@@ -1,4 +1,5 @@
-//! The independent second program: it checks PIV data containers, gives their value sheets, and writes, views and reports them.
+//! The independent second program: it checks PIV data containers, gives their value sheets, writes, views and reports them, and
+//! fills lists with the points of fingers.
 //!
 //! It is written from the scope page (01), the change requests (02) and the list of decided points
 //! alone, and serves as the partner that the proved program is compared with, and as the speed baseline.
@@ -9,11 +10,13 @@ pub mod dates;
 pub mod der;
 pub mod faces;
 pub mod faults;
+pub mod fingers;
 pub mod generate;
 pub mod irises;
 pub mod lengths;
 pub mod longest;
 pub mod named;
+pub mod points;
 pub mod records;
 pub mod report;
 pub mod samples;
@@ -21,6 +24,7 @@ pub mod trees;
 pub mod values;
 
 pub use card::{check, view, write, Checked, Verdict};
+pub use points::{lists, points, Point};
 pub use report::{desk, report};
 pub use values::{fascn_decode, fascn_encode};
 

@@ -4,7 +4,7 @@
 use crate::batch::{Answer, Call, Record};
 use crate::card::{Verdict, CONFORMS};
 use crate::faces::{facial, least, with_pixels};
-use crate::generate::{Card, EXAMPLE_DAY, EXAMPLE_DISCOVERY, EXAMPLE_FASCN};
+use crate::generate::{plain, Card, EXAMPLE_DAY, EXAMPLE_DISCOVERY, EXAMPLE_FASCN};
 use crate::irises::{iris_record, least as least_iris};
 use crate::samples::{card, ccc, certificate, chuid, discovery, face, fingers, iris, printed, security, wrong_fascn};
 use crate::samples::{eye, eyes, portrait, COMPRESSED, P256, RSA, UUID};
@@ -15,6 +15,7 @@ mod faces;
 mod irises;
 mod lengths;
 mod longest;
+mod points;
 mod tags;
 
 /// A call and its answer.
@@ -42,6 +43,7 @@ pub fn all() -> Vec<Group> {
         views(),
         reports(),
         longest::all(),
+        points::all(),
     ]
     .concat()
 }
@@ -50,7 +52,7 @@ pub fn all() -> Vec<Group> {
 // The calls
 
 fn given(call: Call, kind: u64, bytes: &[u8]) -> Record {
-    Record { call, kind, today: EXAMPLE_DAY, element: 0, room: 0, fill: 0, bytes: bytes.to_vec() }
+    plain(call, kind, bytes.to_vec())
 }
 
 fn on(today: u64, (record, answer): Case) -> Case {

@@ -80,7 +80,12 @@ pub fn fingers(quality: u8, last_of_version: u8, counts: [u8; 2]) -> Card {
         data.extend(minutia.repeat(usize::from(count)));
         data.extend([0, 0]);
     }
-    biometric(6, &FINGERS, quality, &data, &[0x30])
+    fingers_with(quality, &data, 1)
+}
+
+/// Fingers with these data, which should be a minutiae record, and so many bytes of signature.
+pub fn fingers_with(quality: u8, record: &[u8], signature: usize) -> Card {
+    biometric(6, &FINGERS, quality, record, &vec![0x30; signature])
 }
 
 /// A face with these data, which should be a facial record, and so many bytes of signature.

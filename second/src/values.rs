@@ -225,6 +225,11 @@ pub const HEADER_FASCN: core::ops::Range<usize> = 59..84;
 /// 01 says 20 32 30 00; section 9.4.1 of document 004 says 0x20323030 and decides.
 pub const MINUTIAE_VERSION: [u8; 4] = [0x20, 0x32, 0x30, 0x30];
 pub const MINUTIAE_FORMAT: [u8; 4] = [0x46, 0x4D, 0x52, 0x00];
+/// What a minutiae record has before its two views.
+pub const MINUTIAE_HEADER_BYTES: usize = 26;
+pub const MINUTIA_BYTES: usize = 6;
+/// A view has at most so many minutiae.
+pub const MINUTIAE_MOST: usize = 128;
 
 /// Section 9.6.1 of document 004. The layout of a facial record is that of INCITS 385.
 pub const FACIAL_FORMAT: [u8; 4] = [0x46, 0x41, 0x43, 0x00];
@@ -367,10 +372,10 @@ pub fn biometric(value: &[u8], format: &Format) -> u64 {
 
 /// A minutiae record of two views that fills the data part.
 fn is_minutiae(record: &[u8]) -> bool {
-    if record.len() < 26 {
+    if record.len() < MINUTIAE_HEADER_BYTES {
         return false;
     }
-    let (header, views) = record.split_at(26);
+    let (header, views) = record.split_at(MINUTIAE_HEADER_BYTES);
     let header_good = header[..4] == MINUTIAE_FORMAT
         && header[4..8] == MINUTIAE_VERSION
         && usize::from(two_at(header, 8)) == record.len()
@@ -386,13 +391,13 @@ fn after_view(bytes: &[u8]) -> Option<&[u8]> {
         return None;
     }
     let count = usize::from(bytes[3]);
-    let end = 4 + 6 * count;
+    let end = 4 + MINUTIA_BYTES * count;
     let good = bytes[0] <= 10
         && matches!(bytes[1], 0x00 | 0x02)
         && matches!(bytes[2], 20 | 40 | 60 | 80 | 100 | 254 | 255)
-        && count <= 128
+        && count <= MINUTIAE_MOST
         && bytes.len() >= end + 2
-        && bytes[4..end].chunks_exact(6).all(is_minutia)
+        && bytes[4..end].chunks_exact(MINUTIA_BYTES).all(is_minutia)
         && bytes[end] == 0
         && bytes[end + 1] == 0;
     if good {
@@ -400,6 +405,21 @@ fn after_view(bytes: &[u8]) -> Option<&[u8]> {
     } else {
         None
     }
+}
+
+/// The minutiae of the first view and those of the second, in a value of BC that conforms as FINGERS.
+pub fn minutiae_of(value: &[u8]) -> [&[u8]; 2] {
+    let (header, body) = value.split_at(HEADER_BYTES);
+    let record = &body[..four_at(header, 2) as usize];
+    let (first, second_view) = minutiae_and_rest(&record[MINUTIAE_HEADER_BYTES..]);
+    let (second, _) = minutiae_and_rest(second_view);
+    [first, second]
+}
+
+/// The minutiae of a conforming finger view, and what follows the view.
+fn minutiae_and_rest(bytes: &[u8]) -> (&[u8], &[u8]) {
+    let end = 4 + MINUTIA_BYTES * usize::from(bytes[3]);
+    (&bytes[4..end], &bytes[end + 2..])
 }
 
 /// Type and x, zero bits and y, angle, quality.

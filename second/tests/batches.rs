@@ -1,8 +1,8 @@
 //! The made calls.
 
-use second::batch::{Call, Record, Tally, BYTES_MAX, ROOM_MAX};
+use second::batch::{Call, Record, Tally, BYTES_MAX, LIST_MAX, ROOM_MAX};
 use second::generate::Inputs;
-use second::{check, number, SHEET_ROOM};
+use second::{check, number, points, SHEET_ROOM};
 use std::collections::BTreeSet;
 
 fn batch(seed: u64, count: usize) -> Vec<Record> {
@@ -23,6 +23,12 @@ fn records_keep_to_the_limits() {
         assert!(record.room <= ROOM_MAX && record.bytes.len() <= BYTES_MAX);
         assert!(record.element == 0 || record.call == Call::View);
         assert!((record.room == 0 && record.fill == 0) || !matches!(record.call, Call::View | Call::FascnDecode));
+        if record.call == Call::Lists {
+            assert!(record.lists.iter().all(|&size| size <= LIST_MAX));
+            assert_eq!((record.kind, record.room), (points::KIND, 0));
+        } else {
+            assert_eq!(record.lists, [0; 5]);
+        }
         if record.call == Call::FascnEncode {
             assert_eq!(record.bytes.len(), 72);
         }

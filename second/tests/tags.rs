@@ -181,7 +181,9 @@ fn tags_stand_at_their_places() {
         let outer = matches!(answer.number, 10..=12) && answer.place == 0;
         let at_the_end = answer.number == 15 && answer.place == record.bytes.len() as u64;
         let (expected, none) = match (record.call, answer.number) {
-            (Call::Check | Call::View, 10..=number::LAST) if !outer => (tag_at(&record, answer.place), at_the_end),
+            (Call::Check | Call::View | Call::Lists, 10..=number::LAST) if !outer => {
+                (tag_at(&record, answer.place), at_the_end)
+            }
             (Call::Write, 10..=number::LAST) => (section_at(&record, answer.place), false),
             _ => (None, true),
         };

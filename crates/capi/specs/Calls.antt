@@ -1,4 +1,4 @@
--- The six calls as C has them. Each record is the whole contract of one function: the record of the door's call, of the numbers that the function answers
+-- The seven calls that C has: those of the door but the list of points, which C has as five lists. Each record is the whole contract of one function: the record of the door's call, of the numbers that the function answers
 -- and stores. A verdict's tag is stored by its number. Nothing is left open (`promises`, `SettledForC`).
 use Prim.Native.Nat.{ℕ}
 use mathlib.Core.Path.{_≡_}
@@ -9,7 +9,8 @@ use Rattle.verdicts.specs.Verdicts.{tagNumber}
 use Rattle.verdicts.specs.declared.Tag.{Tag}
 use Rattle.verdicts.specs.declared.Tag.the-variants.{NoTag}
 use Rattle.views.specs.Views.{viewed}
-use Rattle.prosianek.specs.Calls.{Checks, Writes, Reports, Decodes, Encodes}
+use Rattle.points.specs.Calls.{Five}
+use Rattle.prosianek.specs.Calls.{Checks, Writes, Reports, Lists, Decodes, Encodes}
 
 -- nine numbers in 01's order: agency, system, credential, series, issue, person, category, organisation, association
 abbrev pub numbersOf : List ℕ → Numbers
@@ -47,6 +48,11 @@ pub record CViews (kind today : ℕ) (c : List ℕ) (element number place tag of
 -- no refusal of a report has another place than 0, or a tag
 pub record CReports (kind today : ℕ) (c before after : List ℕ) (number size : ℕ) : Type 0 where
   pub answers : Reports kind today c before after (record { number = number; place = 0; tag = NoTag; length = size })
+
+pub record CLists (today : ℕ) (c : List ℕ) (before after : Five) (number place tag first second : ℕ) : Type 0 where
+  pub there : Tag
+  pub tag-is : tag ≡ tagNumber there
+  pub answers : Lists today c before after (record { verdict = record { number = number; place = place; tag = there }; first = first; second = second })
 
 pub record CDecodes (s : List ℕ) (number : ℕ) (numbers : List ℕ) : Type 0 where
   pub answers : Decodes s (record { number = number; numbers = numbersOf numbers })

@@ -1,6 +1,7 @@
-// The six calls for C: include/prosianek.h declares them. A slice is a pointer and a length there, a lent number a pointer;
+// The seven calls for C: include/prosianek.h declares them. A slice is a pointer and a length there, a lent number a pointer;
 // each function answers 01's number. Each contract is one record of specs/Calls.antt.
-ghost use Rattle.capi.specs.Calls.{CChecks, CWrites, CViews, CReports, CDecodes, CEncodes};
+ghost use Rattle.capi.specs.Calls.{CChecks, CWrites, CViews, CReports, CLists, CDecodes, CEncodes};
+ghost use Rattle.points.specs.Calls.{five};
 use fascn::Numbers;
 
 #[no_mangle]
@@ -84,6 +85,32 @@ pub extern "C" fn prosianek_report(
     let done = prosianek::report(kind, today, container, room);
     *length = done.length;
     done.number
+}
+
+#[no_mangle]
+pub extern "C" fn prosianek_lists(
+    today: u64,
+    container: &[u8],
+    types: &mut [u64],
+    xs: &mut [u64],
+    ys: &mut [u64],
+    angles: &mut [u64],
+    qualities: &mut [u64],
+    place: &mut u64,
+    tag: &mut u64,
+    first: &mut u64,
+    second: &mut u64,
+) -> u64
+    ensures { λ r. ⌜ CLists today (now (container .entry)) (five (now (types .entry)) (now (xs .entry)) (now (ys .entry)) (now (angles .entry)) (now (qualities .entry))) (five (now (types .exit)) (now (xs .exit)) (now (ys .exit)) (now (angles .exit)) (now (qualities .exit))) r (now (place .exit)) (now (tag .exit)) (now (first .exit)) (now (second .exit)) ⌝ }
+{
+    let listed = prosianek::lists(today, container, types, xs, ys, angles, qualities);
+    let verdict = listed.verdict;
+    let there = verdict.tag;
+    *place = verdict.place;
+    *tag = verdicts::tag_number(there);
+    *first = listed.first;
+    *second = listed.second;
+    verdict.number
 }
 
 #[no_mangle]
