@@ -20,7 +20,7 @@ use Rattle.container.specs.Container.{Values, Conforms}
 use Rattle.container.specs.Reading.{fault, located, parsed}
 use Rattle.container.specs.Map as map
 use Rattle.container.specs.declared.Map.{Map}
-use Rattle.container.proofs.Lying.{mapValues, read-fine}
+use Rattle.container.proofs.Lying.{mapValues, fine-size, read-fine}
 use Rattle.container.proofs.Promise.{exact, named}
 use Rattle.points.specs.Points.{dataOf, HasPoints}
 use Rattle.points.specs.Calls.{counted, breaks, short, fits}
@@ -30,12 +30,12 @@ use Rattle.points.proofs.Record.{firstPoints, secondPoints, points-long
 use Rattle.points.proofs.Holding.{first-value, first-is, second-is, stands, shown, listed}
 
 -- nothing is listed
-none-inside : (plan : Plan) (n : ℕ) → plan .first ≡ 0 → plan .second ≡ 0 → Inside plan n
-none-inside plan n p q = record { few = omega arith; within = λ i l. absurd (omega arith) }
+none-inside : (plan : Plan) (n : ℕ) → plan .at ≡ 0 → plan .first ≡ 0 → plan .second ≡ 0 → Inside plan n
+none-inside plan n a p q = record { few = omega arith; near = omega arith; within = λ i l. absurd (omega arith) }
 
 pub out-broken : {today : ℕ} {c : List ℕ} {room : ℕ} → Bytes c → (f : Finding) → parsed 6 today c ≡ fault f → Plans today c room (noPlan (verdictOf (Broken f)))
 unfolding along
-out-broken {today} {c} b f e = record { says = breaks f (named 6 today c b f e) refl refl; inside = none-inside _ _ refl refl; fits = omega arith }
+out-broken {today} {c} b f e = record { says = breaks f (named 6 today c b f e) refl refl; inside = none-inside _ _ refl refl refl; fits = omega arith }
 
 -- ---- it conforms, and the map is that of what was read
 
@@ -88,6 +88,7 @@ module _ (today : ℕ) (c : List ℕ) (b : Bytes c) {m : Map} (e : m ≡ map.map
   lies : Inside plan (length c)
   lies = record {
     few = omega (arith, stand .first-few, stand .second-few);
+    near = omega (arith, stand .within, fine-size 6 today c e o);
     within = λ i l. test (ltb i (firstOf c start)) (λ t. start + 118 + 6 * i + cond t 0 6 + 6 ≤ length c) (λ q. omega (arith, stand .within)) (λ q. omega (arith, stand .within));
   }
 
@@ -103,7 +104,7 @@ module _ (today : ℕ) (c : List ℕ) (b : Bytes c) {m : Map} (e : m ≡ map.map
       elim (which (ltb room (firstOf c start + secondOf c start))) [
         | inl q ↦
             let l : room < firstOf c start + secondOf c start = ltb-true _ _ q in
-            rw q (record { says = short (firstPoints d) (secondPoints d) has (λ k. omega (arith, sum)) refl refl; inside = none-inside _ _ refl refl; fits = omega arith })
+            rw q (record { says = short (firstPoints d) (secondPoints d) has (λ k. omega (arith, sum)) refl refl; inside = none-inside _ _ refl refl refl; fits = omega arith })
         | inr q ↦
             let l : firstOf c start + secondOf c start ≤ room = ltb-false _ _ q in
             rw q

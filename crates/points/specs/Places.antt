@@ -2,13 +2,14 @@
 use Prim.Native.Nat.{ℕ, zero, suc, _+_, _*_, _/_, _%_, _<_, _≤_}
 use mathlib.Core.Bool.{cond}
 use mathlib.Core.List.{List, [], _∷_, _++_}
-use lib.ListN.{length, drop}
+use lib.ListN.{length, take, drop}
 use lib.Dec.{ltb}
 use Rattle.laws.specs.Layout.{field}
 use Rattle.verdicts.specs.Verdicts.{outright, verdictOf}
 use Rattle.verdicts.specs.declared.Fault.the-variants.{SmallRoom}
 use Rattle.verdicts.specs.declared.Outcome.the-variants.{Fine, Broken}
 use Rattle.verdicts.specs.declared.Verdict.{Verdict}
+use Rattle.container.specs.Container.{largest}
 use Rattle.points.specs.Calls.{nothing, Five, Says}
 use Rattle.points.specs.declared.Point.{Point}
 use Rattle.points.specs.declared.Plan.{Plan}
@@ -38,9 +39,13 @@ unfoldable pub along : {A : Type 0} → (ℕ → A) → ℕ → ℕ → List A
 along f i zero = []
 along f i (suc n) = f i ∷ along f (suc i) n
 
--- a list whose first n entries are replaced
-unfoldable pub fronted : {A : Type 0} → (ℕ → A) → ℕ → List A → List A
-fronted f n l = along f 0 n ++ drop n l
+-- a list in which n entries are replaced, from one on
+unfoldable pub spliced : {A : Type 0} → (ℕ → A) → ℕ → ℕ → List A → List A
+spliced f from n l = take from l ++ along f 0 n ++ drop (from + n) l
+
+-- n points that stand one after the other lie within the bytes
+abbrev pub Row : List ℕ → ℕ → ℕ → Type 0
+Row c at n = (i : ℕ) → i < n → at + 6 * i + 6 ≤ length c
 
 -- the smaller number, and how many entries the shortest of five lists has
 abbrev pub fewer : ℕ → ℕ → ℕ
@@ -72,6 +77,7 @@ answerOf plan = record { verdict = plan .verdict; first = plan .first; second = 
 -- each point that is listed stands within so many bytes, and there are no more than two views have
 pub record Inside (plan : Plan) (size : ℕ) : Type 0 where
   pub few : plan .first + plan .second ≤ 256
+  pub near : plan .at ≤ largest
   pub within : (i : ℕ) → i < plan .first + plan .second → placeOf plan i + 6 ≤ size
 
 -- a record with so many points stands there: its counts and its points lie within the bytes

@@ -1,84 +1,108 @@
--- `points::put_points` meets its contract. The loop's invariant: the first i entries of each list are put. Assumes nothing.
-use Prim.Native.Nat.{ℕ, _+_, _-_, _≤_}
-use mathlib.Core.Path.{_≡_, refl, ap}
+-- `points::put_points` meets its contract: the points of both views are put, and what is behind them is cleared. Assumes nothing.
+use Prim.Native.Nat.{_+_}
+use mathlib.Core.Path.{_≡_, refl, ap, _∙_}
+use mathlib.Core.List.{map}
 use native.Mathlib.Omega.{arith}
 use borrow.Author.Needs.{needs}
-use Rattle.points.specs.Calls.{five}
-use Rattle.points.specs.Places.{entryOf}
-use Rattle.points.specs.declared.Point.{Point}
-use Rattle.points.proofs.Filling.{Put, put-first, put-next, left}
+use lib.ListN.{length}
+use Rattle.points.specs.Calls.{entries, five}
+use Rattle.points.specs.Places.{entryOf, along}
+use Rattle.points.proofs.Filling.{spliced-length, entries-long}
+use Rattle.points.proofs.Entries.{within-first, within-second, both-views}
 use Rattle.points.proofs.put_points.Statement.{statement}
 use Rattle.points.proofs.put_points.Tie as tie
 
-abbrev Inv-loop : tie.InvT-loop
-Inv-loop c plan types₀ xs₀ ys₀ angles₀ qualities₀ count i₀ types xs ys angles qualities i =
-    (i ≤ count)
-    × Put (λ k. entryOf c plan k .sort) i types₀ types
-    × Put (λ k. entryOf c plan k .x) i xs₀ xs
-    × Put (λ k. entryOf c plan k .y) i ys₀ ys
-    × Put (λ k. entryOf c plan k .angle) i angles₀ angles
-    × Put (λ k. entryOf c plan k .quality) i qualities₀ qualities
+abbrev start : tie.After-put-view → tie.Start
+start v = v .before .before .before .before .before .before .before .before .before .before .before .before .before .before
 
-abbrev μ-loop : tie.MeasureT-loop
-μ-loop c plan types₀ xs₀ ys₀ angles₀ qualities₀ count i₀ types xs ys angles qualities i = count - i
+abbrev first-put : tie.After-put-view2 → tie.After-put-view
+first-put w = w .before .before .before .before .before .before .before .before .before .before .before .before .before .before .before .before
 
-loop-holds : tie.Need-loop-holds Inv-loop μ-loop
-loop-holds c = (omega arith, put-first _ _, put-first _ _, put-first _ _, put-first _ _, put-first _ _)
+put-view-requires : tie.Need-put-view-requires
+put-view-requires c κs =
+    let s = c .before .before .before .before .before .before .before .before .before .before .before .before .before in
+    let a = s .args in
+    (λ i h. within-first (a .c .now) (a .plan) i (s .pre .0) h, (omega (arith, s .pre .1), omega (arith, s .pre .1), omega (arith, s .pre .1), omega (arith, s .pre .1), omega (arith, s .pre .1)))
 
-loop-again : tie.Need-loop-again Inv-loop μ-loop
-loop-again c =
-    let l = c .before .before .loop in
-    let e = c .entry .ensures in (
-      omega arith,
-      put-next _ (l .i) _ (l .types) _ (l .inv .1) (ap (λ (p : Point). p .sort) e) (omega arith),
-      put-next _ (l .i) _ (l .xs) _ (l .inv .2) (ap (λ (p : Point). p .x) e) (omega arith),
-      put-next _ (l .i) _ (l .ys) _ (l .inv .3) (ap (λ (p : Point). p .y) e) (omega arith),
-      put-next _ (l .i) _ (l .angles) _ (l .inv .4) (ap (λ (p : Point). p .angle) e) (omega arith),
-      put-next _ (l .i) _ (l .qualities) _ (l .inv .5) (ap (λ (p : Point). p .quality) e) (omega arith),
+-- each list has its length after the first view
+first-long : (v : tie.After-put-view) → let z = v .put-view .last .1 .1 .1 in let a = start v .args in
+    (length (z .0) ≡ length (a .types .now)) × (length (z .1 .0) ≡ length (a .xs .now)) × (length (z .1 .1 .0) ≡ length (a .ys .now))
+    × (length (z .1 .1 .1 .0) ≡ length (a .angles .now)) × (length (z .1 .1 .1 .1 .0) ≡ length (a .qualities .now))
+first-long v =
+    let e = v .put-view .ensures in
+    let h = start v .pre .1 in (
+      ap length (e .0) ∙ spliced-length _ 0 _ _ (omega (arith, h)),
+      ap length (e .1 .0) ∙ spliced-length _ 0 _ _ (omega (arith, h)),
+      ap length (e .1 .1 .0) ∙ spliced-length _ 0 _ _ (omega (arith, h)),
+      ap length (e .1 .1 .1 .0) ∙ spliced-length _ 0 _ _ (omega (arith, h)),
+      ap length (e .1 .1 .1 .1) ∙ spliced-length _ 0 _ _ (omega (arith, h)),
     )
 
-returns : tie.Need-returns Inv-loop μ-loop
-returns c =
-    let z = c .before .before .before .before .before .before .before .before .before .before in
-    let l = z .before .before .before .before .before .before .before .loop in
-    let s = z .before .before .before .before .before .before .before .before .before .before .before .before .before .before .before in
+put-view-requires-2 : tie.Need-put-view-requires-2
+put-view-requires-2 c κs =
+    let v = c .before .before .before .before .before .before .before .before .before .before .before .before .before .before .before in
+    let s = start v in
     let a = s .args in
-    let f : ℕ → Point = entryOf (a .c .now) (a .plan) in
-    let m : ℕ = a .plan .first + a .plan .second in
-    let e : l .i ≡ m = omega arith in
-    let h = s .pre .1 in
-    let t = left (λ p. p .sort) refl f m (l .i) _ (l .types) _ e (h .0) (l .inv .1) (z .clear-each .ensures .0) in
-    let x = left (λ p. p .x) refl f m (l .i) _ (l .xs) _ e (h .1) (l .inv .2) (z .clear-each .ensures .1 .0) in
-    let y = left (λ p. p .y) refl f m (l .i) _ (l .ys) _ e (h .2) (l .inv .3) (z .clear-each .ensures .1 .1 .0) in
-    let n = left (λ p. p .angle) refl f m (l .i) _ (l .angles) _ e (h .3) (l .inv .4) (z .clear-each .ensures .1 .1 .1 .0) in
-    let q = left (λ p. p .quality) refl f m (l .i) _ (l .qualities) _ e (h .4) (l .inv .5) (z .clear-each .ensures .1 .1 .1 .1) in
-    λ j. five (t j) (x j) (y j) (n j) (q j)
+    let l = first-long v in
+    let h = s .pre .1 in (
+      λ i k. omega (arith, within-second (a .c .now) (a .plan) (a .plan .first + i) (s .pre .0) (omega arith) (omega arith)),
+      (omega (arith, l .0, h), omega (arith, l .1, h), omega (arith, l .2, h), omega (arith, l .3, h), omega (arith, l .4, h)),
+    )
+
+abbrev cleared : tie.After-slice-known20 → tie.After-clear-each
+cleared c = c .before .before .before .before .before .before .before .before .before .before
+
+abbrev second-put : tie.After-clear-each → tie.After-put-view2
+second-put z = z .before .before .before .before .before .before .before .before .before .before .before .before .before .before .before .before
+
+-- what is left in each list
+left : (c : tie.After-slice-known20)
+    → let z = cleared c .clear-each .last in
+    let a = start (first-put (second-put (cleared c))) .args in
+    let ps = along (entryOf (a .c .now) (a .plan)) 0 (a .plan .first + a .plan .second) in
+    (z .0 ≡ map (λ p. p .sort) (entries ps (length (a .types .now))))
+    × (z .1 .0 ≡ map (λ p. p .x) (entries ps (length (a .xs .now))))
+    × (z .1 .1 .0 ≡ map (λ p. p .y) (entries ps (length (a .ys .now))))
+    × (z .1 .1 .1 .0 ≡ map (λ p. p .angle) (entries ps (length (a .angles .now))))
+    × (z .1 .1 .1 .1 .0 ≡ map (λ p. p .quality) (entries ps (length (a .qualities .now))))
+left c =
+    let z = cleared c in
+    let w = second-put z in
+    let v = first-put w in
+    let a = start v .args in
+    let h = start v .pre .1 in
+    let d = z .clear-each .ensures in
+    let e = w .put-view2 .ensures in
+    let f = v .put-view .ensures in (
+      both-views (a .c .now) (a .plan) (λ p. p .sort) _ _ _ _ refl (h .0) (f .0) (e .0) (d .0),
+      both-views (a .c .now) (a .plan) (λ p. p .x) _ _ _ _ refl (h .1) (f .1 .0) (e .1 .0) (d .1 .0),
+      both-views (a .c .now) (a .plan) (λ p. p .y) _ _ _ _ refl (h .2) (f .1 .1 .0) (e .1 .1 .0) (d .1 .1 .0),
+      both-views (a .c .now) (a .plan) (λ p. p .angle) _ _ _ _ refl (h .3) (f .1 .1 .1 .0) (e .1 .1 .1 .0) (d .1 .1 .1 .0),
+      both-views (a .c .now) (a .plan) (λ p. p .quality) _ _ _ _ refl (h .4) (f .1 .1 .1 .1) (e .1 .1 .1 .1) (d .1 .1 .1 .1),
+    )
+
+same-length : tie.Need-same-length
+same-length c = ap length (left c .0) ∙ entries-long _ _ _
+
+same-length-2 : tie.Need-same-length-2
+same-length-2 c = ap length (left c .1) ∙ entries-long _ _ _
+
+returns : tie.Need-returns
+returns c = let l = left c in λ j. five (l .0 j) (l .1 j) (l .2 j) (l .3 j) (l .4 j)
 
 pub put-points-spec : {M : Type 1} → statement M
 put-points-spec =
     tie.close
     (tie.spec
-    Inv-loop
-    μ-loop
     (λ c. search needs)
-    loop-holds
+    (λ c. search needs)
+    (λ c. search needs)
+    (λ c. search needs)
+    put-view-requires
+    put-view-requires-2
     (λ c κs. search needs)
-    (λ c. search needs)
-    (λ c. search needs)
-    (λ c. search needs)
-    (λ c. search needs)
-    (λ c. search needs)
-    (λ c. search needs)
-    (λ c. search needs)
-    (λ c. search needs)
-    (λ c. search needs)
-    (λ c. search needs)
-    (λ c. search needs)
-    (λ c. search needs)
-    loop-again
-    (λ c κs. search needs)
-    (λ c. search needs)
-    (λ c. search needs)
+    same-length
+    same-length-2
     (λ c. search needs)
     (λ c. search needs)
     (λ c. search needs)

@@ -51,7 +51,7 @@ use denote.Triple.Spec.{Meets, tripleOf}
 use denote.Triple.Table.{entered, cited}
 use denote.Triple.Walked.{says, Stays, stay-none, stay-none-slice, stay-slice, walkOf, goes-none, goes-none-slice, goes-slice, Walks, ends-at, walked, walk-meets}
 use denote.Exit.{yes}
-use Rattle.points.specs.Places.{entryOf, along, fronted, answerOf, Plans}
+use Rattle.points.specs.Places.{entryOf, along, spliced, answerOf, Plans}
 use Rattle.points.specs.declared.Point.{Point}
 use Rattle.points.specs.declared.Plan.{Plan}
 use Rattle.points.specs.declared.Listed.{Listed}
@@ -73,7 +73,7 @@ use Rattle.points.proofs.answer as answer
 use Rattle.points.proofs.answer.Symbol as answer-def
 use Rattle.points.proofs.answer.Symbol.{name as #answer}
 use Rattle.points.proofs.answer.Met as answer-thm
-use Rattle.points.proofs.Filling.{fronted-length, fronted-next, fronted-none, fronted-all}
+use Rattle.points.proofs.Filling.{spliced-length, spliced-next, spliced-none, spliced-all}
 use Rattle.points.proofs.Filled.{filled-points}
 use Rattle.prosianek.proofs.points.Key.{name as #points}
 use Rattle.prosianek.proofs.points as points
@@ -218,10 +218,10 @@ module _ {M : Type 1} (𝓤 : URA M) (H : Heap 𝓤) (A : Atoms 𝓤) (W : Given
       f = entryOf (d .now) plan
 
       abbrev zs : List Point
-      zs = fronted f n ys
+      zs = spliced f 0 n ys
 
       long : length zs ≡ n
-      long = fronted-length f n ys (omega arith)
+      long = spliced-length f 0 n ys (omega arith)
 
       -- what is left once the borrow is closed and `answer` has returned r, at the machine value v
       abbrev Closed : Listed → Val → List (Item 𝓤)
@@ -232,7 +232,7 @@ module _ {M : Type 1} (𝓤 : URA M) (H : Heap 𝓤) (A : Atoms 𝓤) (W : Given
       exits r v e =
           qed W (Closed r v) ∵
           suffices ! _ (ends-at 𝓤 H A points.ended stayed (points.clauses 𝓤 H A mem run) W (((κ, (κ′, tt)), (q, (q′, tt)), tt, a, vals), tt) v r (tt, (tt, (zs, tt))) (tt, (tt, (long, tt)))) $
-          says ! (record { fills = rw e (filled-points ys plans (fronted-all f ys)) }) $
+          says ! (record { fills = rw e (filled-points ys plans (spliced-all f ys)) }) $
           nothing ! $ move ! (3 ∷ 0 ∷ []) $ join ! $ move ! (3 ∷ 0 ∷ []) $ join ! $ frame ! $
           fjoin ! $ pureI ! (at-slice T.the-row (x zs) (vals .1 .1 .0)) (tt, (tt, tt)) (ap (λ (m : ℕ). sliceVal (b, o) m ∷ []) (sym (long)), subst (Room T.the-row) (sym (long)) room) $ fjoin ! $
           nothing ! $ move ! (1 ∷ 0 ∷ []) $ fjoin ! $ move ! (1 ∷ 0 ∷ []) $ fjoin ! $ owned ! u64 (Is u64) (uint-makes 𝓤 H A W w64) today _ (refl, fits) $ fjoin ! $ done !
@@ -277,7 +277,7 @@ module _ {M : Type 1} (𝓤 : URA M) (H : Heap 𝓤) (A : Atoms 𝓤) (W : Given
 
       -- i places are filled
       abbrev At : ℕ → List (Item 𝓤)
-      At i = ‵ (row T.the-row fullShare (fronted f i ys) b o) ∷ ‵ Own ∷ ‵ (flft κ q) ∷ ‵ (fat fullShare word l₅ 0 (vint w64 i)) ∷ ‵ (froom T′.mir l₆ 0) ∷ ‵ (froom word l₈ 0) ∷ ‵ (froom tyBool l₉ 0) ∷ ‵ (froom tyPtr l₁₀ 0) ∷ Frame
+      At i = ‵ (row T.the-row fullShare (spliced f 0 i ys) b o) ∷ ‵ Own ∷ ‵ (flft κ q) ∷ ‵ (fat fullShare word l₅ 0 (vint w64 i)) ∷ ‵ (froom T′.mir l₆ 0) ∷ ‵ (froom word l₈ 0) ∷ ‵ (froom tyBool l₉ 0) ∷ ‵ (froom tyPtr l₁₀ 0) ∷ Frame
 
       -- the invariant, where t places are left
       abbrev Inv : ℕ → SProp 𝓤
@@ -290,7 +290,7 @@ module _ {M : Type 1} (𝓤 : URA M) (H : Heap 𝓤) (A : Atoms 𝓤) (W : Given
       Left = afterBlock 𝓤 H (afterSeq 𝓤 H (Wp 𝓤 H C Λ En mirs.t-5 (atReturn 𝓤 H En Post)) (atReturn 𝓤 H En Post))
 
       -- a turn that fills one place
-      more : (i : ℕ) (X : SProp 𝓤) → i < n → i < 2 ^ 64 → i * 40 < 2 ^ 64 → i + 1 < 2 ^ 64 → i < length (fronted f i ys) → ent 𝓤 (⋆ 𝓤 H A (At (suc i))) X → ent 𝓤 (⋆ 𝓤 H A (At i)) (Wp 𝓤 H C Λ En mirs.turn-1 (afterTurn 𝓤 H X Left))
+      more : (i : ℕ) (X : SProp 𝓤) → i < n → i < 2 ^ 64 → i * 40 < 2 ^ 64 → i + 1 < 2 ^ 64 → i < length (spliced f 0 i ys) → ent 𝓤 (⋆ 𝓤 H A (At (suc i))) X → ent 𝓤 (⋆ 𝓤 H A (At i)) (Wp 𝓤 H C Λ En mirs.turn-1 (afterTurn 𝓤 H X Left))
       unfolding afterTurn
       more i X within gi small next inside k =
           qed W (At i) ∵ exec ! C Λ En mirs.turn-1 (anyQ (afterTurn 𝓤 H X Left)) $
@@ -310,10 +310,10 @@ module _ {M : Type 1} (𝓤 : URA M) (H : Heap 𝓤) (A : Atoms 𝓤) (W : Given
           assigns ! (bin ! (load ! (from ! (stop !)) (look ! 4 refl)) (lit ! tt) (record { fits = small })) (from ! (stop !)) (store ! 6 refl (tt, record { fits = small })) $
           assigns ! (bin ! (load ! (from ! (fld ! refl (stop !))) (look-in ! 11 (sub ! 0 refl (whole !)))) (load ! (from ! (stop !)) (look ! 6 refl)) tt) (from ! (stop !)) (init ! 8 refl (tt, tt)) $
           rewrite ! 8 (λ (z : ℕ). ‵ (fat fullShare tyPtr l₁₀ 0 (vptr b z))) (sym (place-is 40 o i)) refl $
-          move ! (3 ∷ []) $ elem-out ! T.the-row (Is T.the-row) (shows 𝓤 H A T.the-row) (LL.vals T.the-type T′.the-laws) (LL.tells T.the-type T′.the-laws) fullShare (fronted f i ys) i r b o inside (λ _.
+          move ! (3 ∷ []) $ elem-out ! T.the-row (Is T.the-row) (shows 𝓤 H A T.the-row) (LL.vals T.the-type T′.the-laws) (LL.tells T.the-type T′.the-laws) fullShare (spliced f 0 i ys) i r b o inside (λ _.
           -- [out[i]; what it owns; the others; what the point owns; the token; what container owns; _5; _6; _8; _9; _10; _1; _2; _3; _4; …]
           assigns ! (of-opd ! (load ! (from ! (stop !)) (look ! 7 refl))) (from ! (hop ! (look ! 10 refl) (stop !))) (store-raw ! 0 refl (LL.lawful T.the-type T′.the-laws 𝓤 H A W .typed r _ is .0)) $
-          move ! (1 ∷ []) $ drop ! $ move ! (0 ∷ 2 ∷ 1 ∷ []) $ elem-put ! T.the-row fullShare (fronted f i ys) i r (u ∷ []) b o inside $
+          move ! (1 ∷ []) $ drop ! $ move ! (0 ∷ 2 ∷ 1 ∷ []) $ elem-put ! T.the-row fullShare (spliced f 0 i ys) i r (u ∷ []) b o inside $
           -- [the row; the token; what container owns; _5; _6; _8; _9; _10; _1; _2; _3; _4; …]
           assigns-last ! (bin ! (load ! (from ! (stop !)) (look ! 3 refl)) (lit ! tt) (record { fits = next })) (from ! (stop !)) (store ! 3 refl (tt, record { fits = next })) $
           forget ! 4 refl $ forget ! 5 refl $ forget ! 6 refl $ forget ! 7 refl $
@@ -322,8 +322,10 @@ module _ {M : Type 1} (𝓤 : URA M) (H : Heap 𝓤) (A : Atoms 𝓤) (W : Given
           -- [the token; true; the row; what container owns; _5; …]
           move ! (1 ∷ []) $ split ! $ keep ! (2 ∷ 3 ∷ 0 ∷ 4 ∷ 5 ∷ 6 ∷ 7 ∷ 8 ∷ 9 ∷ 10 ∷ 11 ∷ 12 ∷ 13 ∷ 14 ∷ 15 ∷ 16 ∷ 17 ∷ 18 ∷ 19 ∷ 20 ∷ 21 ∷ 22 ∷ 23 ∷ 24 ∷ 25 ∷ 26 ∷ 27 ∷ 28 ∷ []) $ by ! k)))))
         where
-          stored : {r : Point} → r ≡ f i → set (fronted f i ys) i r ≡ fronted f (suc i) ys
-          stored e = rw e (fronted-next f i ys within)
+          stored : {r : Point} → r ≡ f i → set (spliced f 0 i ys) i r ≡ spliced f 0 (suc i) ys
+          stored e =
+              let z : 0 + i ≡ i = omega arith in
+              rw e (rw (z, add-one i) at (spliced-next f 0 i ys (f i) (omega arith)))
 
       -- the turn that leaves the loop, and the rest of the body: the borrow is closed at what is filled, and `answer` gives the result
       ends : (X : SProp 𝓤) → ent 𝓤 (⋆ 𝓤 H A (At n)) (Wp 𝓤 H C Λ En mirs.turn-1 (afterTurn 𝓤 H X Left))
@@ -361,7 +363,7 @@ module _ {M : Type 1} (𝓤 : URA M) (H : Heap 𝓤) (A : Atoms 𝓤) (W : Given
         where
           all-done : n ≡ i
           all-done = omega arith
-      turn-at (suc t) i e = more i (Below (suc t)) (omega arith) (omega (arith, room)) (omega (arith, room)) (omega (arith, room)) (rw (fronted-length f i ys (omega arith)) (omega arith)) (below t i (omega arith))
+      turn-at (suc t) i e = more i (Below (suc t)) (omega arith) (omega (arith, room)) (omega (arith, room)) (omega (arith, room)) (rw (spliced-length f 0 i ys (omega arith)) (omega arith)) (below t i (omega arith))
 
       turns : (t : ℕ) → ent 𝓤 (Inv t) (Wp 𝓤 H C Λ En mirs.turn-1 (afterTurn 𝓤 H (Below t) Left))
       turns t = exE 𝓤 (λ (i : ℕ). guard 𝓤 (i + t ≡ n) (⋆ 𝓤 H A (At i))) (λ i. guardE 𝓤 (i + t ≡ n) (⋆ 𝓤 H A (At i)) (λ e. turn-at t i e))
@@ -374,7 +376,7 @@ module _ {M : Type 1} (𝓤 : URA M) (H : Heap 𝓤) (A : Atoms 𝓤) (W : Given
 
     -- ---- the MIR up to the loop, once the parameters are passed: the borrow is opened, and `locate` is called
     begins : ent 𝓤 (⋆ 𝓤 H A Start) (Wp 𝓤 H C Λ En mirs.t-1 (atReturn 𝓤 H En Post))
-    unfolding fronted along
+    unfolding spliced along
     begins =
         qed W Start ∵ exec ! C Λ En mirs.t-1 (atRet En Post) $
         -- [what is owned; the tokens; _1; _2; _3; room for _0; _4; _5; _6; _7; _8; _9; _10; …]
