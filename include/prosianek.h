@@ -1,23 +1,26 @@
 // The seven calls of Prosianek for C and C++: PIV card data containers (SP 800-73-4) checked and read, written, viewed and
-// reported, the points of a FINGERS container as lists, and FASC-N numbers alone. crates/capi/src/lib.rt of the repository has the functions with their contracts. They are
-// in libprosianek.a, which links into x86-64 programs and needs only the C library's memory functions:
+// reported, the points of a FINGERS container as lists, and FASC-N numbers alone. crates/capi/src/lib.rt of the repository has
+// the functions with their contracts. They are in libprosianek.a, which links into x86-64 programs and needs only the C
+// library's memory functions:
 //     cc program.c $(pkg-config --cflags --libs prosianek)
 //
 // What is proved: every call ends and answers, whatever the bytes, dates, tags and sizes are; number, place, tag, length and
-// each byte of a lent room are what the contract says. The caller need not have checked anything. The calls keep nothing
-// from one call to the next.
+// counts, each byte of a lent room and each number of a lent list are what the contract says. The caller need not have checked
+// anything. The calls keep nothing from one call to the next.
 //
 // What a C caller owes, because nothing on this side of the border can check it:
-//   - a pointer is not null, also where its size is 0: lend any byte there;
-//   - a pointer with a size is valid for so many bytes, a list with a size for so many numbers: to read where it is const, else
-//     to read and write. The room's or the list's earlier contents do not matter, but they have to be there to be cleared;
-//   - any other uint64_t pointer is valid for one number, or for nine where the parameter says [9], and all are aligned as usual;
+//   - a pointer is not null, also where its size is 0: lend any byte there, or any number for a list;
+//   - a uint8_t pointer with a size is valid for so many bytes, and a list, a uint64_t pointer with a size, for so many
+//     numbers: to read where it is const, else to read and write. The earlier contents of a room or a list do not matter, but
+//     they have to be there to be cleared;
+//   - any other uint64_t pointer is valid for one number, or for nine where the parameter says [9];
+//   - every uint64_t pointer is aligned as usual, that of a list of size 0 too;
 //   - the rooms, the lists and the lent numbers of one call do not overlap each other, nor the call's input.
 // If one of these fails, no promise holds.
 //
 // The number that each call answers is one of enum prosianek_number. A call writes each of its lent numbers on every
-// answer. A refusal (any number but 0) leaves the lent room, or each lent list, all zeros; a success leaves zeros after the last
-// byte of output, or after the last point. So the rest of a room never shows what an earlier call left there.
+// answer. A refusal (any number but 0) leaves the lent room, or each lent list, all zeros; a success leaves zeros after the
+// last byte of output, or after the last point. So the rest of a room or a list never shows what an earlier call left there.
 #ifndef PROSIANEK_H
 #define PROSIANEK_H
 
@@ -95,8 +98,8 @@ enum prosianek_number {
 // In all calls: kind is one of enum prosianek_kind; today is a date as an eight-digit number, such as 20260301; container
 // and size are the container's bytes and how many there are, from the outer tag on.
 //
-// A verdict is a number, a place and a tag. The tag says which element is meant, as a number such as 0x30, or 0x5F2F for the tag
-// of two bytes; where none is meant it is PROSIANEK_NO_TAG. By the verdict's number:
+// A verdict is a number, a place and a tag. The tag says which element is meant, as a number such as 0x30, or 0x5F2F for the
+// tag of two bytes; where none is meant it is PROSIANEK_NO_TAG. By the verdict's number:
 //   - 0, and 1 to 7: no tag;
 //   - 10, and 11 and 12 of the outer length: no tag;
 //   - 15 of a container: the tag found in the place of the missing one; no tag at the container's end, where nothing is found;
@@ -105,23 +108,24 @@ enum prosianek_number {
 //   - every number of a sheet from 15 on: the tag of the row at the place, also of one that is missing.
 // In a report the tag is the last word of the line `verdict`: two hex digits, four for the tag of two bytes, or `--`.
 
-// Whether a container conforms under the date, and the value sheet of one that does: for each row of the kind's table, in order,
-// a two-byte count, high byte first, which is 0 for an absent element and n + 1 for a value of n bytes, and then the n bytes.
-//   sheet    the lent room, sheet_size its size. PROSIANEK_SHEET_ROOM bytes are always enough, and so are size + 6. With a size of
-//            0 the verdict alone is asked for: it does not depend on the room.
+// Whether a container conforms under the date, and the value sheet of one that does: for each row of the kind's table, in
+// order, a two-byte count, high byte first, which is 0 for an absent element and n + 1 for a value of n bytes, and then the n
+// bytes.
+//   sheet    the lent room, sheet_size its size. PROSIANEK_SHEET_ROOM bytes are always enough, and so are size + 6. With a size
+//            of 0 the verdict alone is asked for: it does not depend on the room.
 //   place    where the first broken rule is: the offset of the element's tag in the container; for 15 of the tag found
 //            instead, or the container's end; 0 for 1, 2, 4, for a broken outer tag or length, and when it conforms.
 //   tag      that of the verdict, as listed above: PROSIANEK_NO_TAG where the place is 0 or the container's end, else the tag
 //            that stands at the place.
 //   room     3 if it conforms and the room is under the sheet's length, as one of size 0 always is; else 0.
 //   length   the sheet's length; 0 where none is written.
-// Answers the verdict: 0 if it conforms; else 1, 2, 4, or the first broken rule, 10 to 27. Where it is 0 and *room is 0 too, the
-// room then holds the sheet and zeros; else all zeros.
+// Answers the verdict: 0 if it conforms; else 1, 2, 4, or the first broken rule, 10 to 27. Where it is 0 and *room is 0 too,
+// the room then holds the sheet and zeros; else all zeros.
 uint64_t prosianek_check(uint64_t kind, uint64_t today, const uint8_t *container, size_t size, uint8_t *sheet,
                          size_t sheet_size, uint64_t *place, uint64_t *tag, uint64_t *room, uint64_t *length);
 
-// The container of a value sheet, each length in the fewest bytes. Of a sheet that prosianek_check gave it is the container that
-// was checked, byte for byte, where that was in the fewest bytes too; else a shorter one, with the same elements.
+// The container of a value sheet, each length in the fewest bytes. Of a sheet that prosianek_check gave it is the container
+// that was checked, byte for byte, where that was in the fewest bytes too; else a shorter one, with the same elements.
 //   sheet    the sheet, size its bytes.
 //   container  the lent room, room its size.
 //   place    where the first broken rule is: the offset in the sheet of the row's count; 0 for 1 to 5 and on a success.
@@ -153,9 +157,9 @@ uint64_t prosianek_report(uint64_t kind, uint64_t today, const uint8_t *containe
                           size_t room_size, uint64_t *length);
 
 // The points (minutiae) of a FINGERS container that conforms, the first view's and then the second's, as five lists: entry i of
-// each list is a number of point i. A point, put back, is six bytes, the high byte first: type * 16384 + x in two, y in two, angle,
-// quality. The points are personal, and no report has them.
-//   types    lent: the type of each point, 0 to 2; types_size how many numbers the list has room for.
+// each list is a number of point i. A point, put back, is six bytes, the high byte first: type * 16384 + x in two, y in two,
+// angle, quality. The points are personal, and no report has them.
+//   types    lent: the type of each point, 0 to 2. Its size, as that of each list, says how many numbers it has room for.
 //   xs, ys   lent: where it is, 0 to 16383 each.
 //   angles   lent: its angle, 0 to 179, as the card has it.
 //   qualities  lent: its quality, 0 to 100.
@@ -163,10 +167,10 @@ uint64_t prosianek_report(uint64_t kind, uint64_t today, const uint8_t *containe
 //   tag      as prosianek_check gives it; PROSIANEK_NO_TAG for 3 and on a success.
 //   first    how many points the first view has, 0 to 128; 0 on a refusal.
 //   second   how many the second has, likewise.
-// Answers 0 if the lists are filled; else what prosianek_check answers of kind 6, or 3 if the container conforms and a list has room
-// for fewer numbers than there are points. The lists may have room for different numbers: PROSIANEK_MOST_POINTS are always enough,
-// and where there are no points, none. Each list then holds a number of each point, and zeros up to its own end; on a refusal all
-// are zeros.
+// Answers 0 if the lists are filled; else what prosianek_check answers of kind 6 (PROSIANEK_FINGERS), or 3 if the container
+// conforms and a list has room for fewer numbers than there are points. The lists need not be equally long: room for
+// PROSIANEK_MOST_POINTS is always enough, and where there are no points, none is needed. Each list then holds a number of each
+// point, and zeros up to its own end; on a refusal all zeros.
 uint64_t prosianek_lists(uint64_t today, const uint8_t *container, size_t size, uint64_t *types, size_t types_size,
                          uint64_t *xs, size_t xs_size, uint64_t *ys, size_t ys_size, uint64_t *angles, size_t angles_size,
                          uint64_t *qualities, size_t qualities_size, uint64_t *place, uint64_t *tag, uint64_t *first,

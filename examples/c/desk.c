@@ -1,8 +1,9 @@
-// desk KIND TODAY FILE: all six calls on the container in a file. It prints the desk report, an empty line, and then what
+// desk KIND TODAY FILE: all seven calls on the container in a file. It prints the desk report, an empty line, and then what
 // each of the other calls says. examples/rust/desk.rs prints the same text.
 //
-// What it prints of a card is open by the desk's rules: tags, lengths, agency and system. The sheet, and the other seven
-// numbers of a FASC-N, are personal, so it only says that they came back.
+// What it prints of a card is open by the desk's rules: tags, lengths, agency and system. The sheet, the other seven numbers of
+// a FASC-N, and the points of a FINGERS container are personal, so it only says that they came back. It does not say how many
+// points there are either: no length in the report tells that, since the signature behind them may have any length.
 //
 // Exit status, as that of the desk: 0 if the container conforms; 1 if it breaks a rule, the report is refused or the calls
 // disagree; 2 for bad words, a file that cannot be read whole, or text that cannot be written.
@@ -27,6 +28,14 @@ static uint8_t sheet[PROSIANEK_SHEET_ROOM];
 static uint8_t written[PROSIANEK_LARGEST_CONTAINER];
 static uint8_t again[PROSIANEK_SHEET_ROOM];
 static uint8_t report[PROSIANEK_REPORT_ROOM];
+
+// The lists are as long as any answer, too. Entry i of each is a number of point i.
+static uint64_t types[PROSIANEK_MOST_POINTS], xs[PROSIANEK_MOST_POINTS], ys[PROSIANEK_MOST_POINTS];
+static uint64_t angles[PROSIANEK_MOST_POINTS], qualities[PROSIANEK_MOST_POINTS];
+
+// Where the views stand in the value of BC: the byte with the first one's count is there, and its points follow. Between a
+// view's last point and the next view's count are five bytes.
+enum { FIRST_COUNT = 117, POINT_BYTES = 6, BETWEEN_VIEWS = 5 };
 
 // A word of digits. strtoull alone would take signs and spaces too.
 static int number_of(const char *word, uint64_t *number) {
@@ -131,6 +140,50 @@ static int viewed(uint64_t kind, uint64_t today, size_t size, struct verdict sai
     return same(v, said);
 }
 
+// Whether point i, put back, is these six bytes. Whole numbers are compared, so that none is cut to a byte.
+static int same_point(const uint8_t *bytes, size_t i) {
+    return bytes[0] * 256u + bytes[1] == types[i] * 16384 + xs[i] && bytes[2] * 256u + bytes[3] == ys[i] &&
+           bytes[4] == angles[i] && bytes[5] == qualities[i];
+}
+
+// Whether so many points, from entry `from` on, put back, are the view whose count is the first of these bytes.
+static int same_view(const uint8_t *view, size_t from, uint64_t count) {
+    if (view[0] != count) return 0;
+    for (size_t i = 0; i < count; i++)
+        if (!same_point(view + 1 + POINT_BYTES * i, from + i)) return 0;
+    return 1;
+}
+
+// Whether the points, put back, are the bytes of the container that they were read from.
+static int put_back(uint64_t today, size_t size, uint64_t first, uint64_t second) {
+    const uint64_t kind = PROSIANEK_FINGERS;
+    uint64_t place, tag, offset, length;
+    uint64_t number = prosianek_view(kind, today, container, size, tags[kind], &place, &tag, &offset, &length);
+    if (number != PROSIANEK_DONE) return 0;
+    const uint8_t *view = container + offset + FIRST_COUNT;
+    return same_view(view, 0, first) && same_view(view + 1 + POINT_BYTES * first + BETWEEN_VIEWS, first, second);
+}
+
+// Lists the points of a FINGERS container; whether they came back and the answer fits the check's. The call takes no kind: it
+// answers as the check of this kind does, where a rule is broken.
+static int listed(uint64_t today, size_t size, struct verdict said) {
+    const size_t most = PROSIANEK_MOST_POINTS;
+    struct verdict v;
+    uint64_t first, second;
+    v.number = prosianek_lists(today, container, size, types, most, xs, most, ys, most, angles, most, qualities, most, &v.place,
+                               &v.tag, &first, &second);
+    if (v.number != PROSIANEK_DONE) {
+        refused("lists", v);
+        return same(v, said);
+    }
+    if (!put_back(today, size, first, second)) {
+        printf("lists: the points did not come back\n");
+        return 0;
+    }
+    printf("lists: the points came back byte for byte\n");
+    return same(v, said);
+}
+
 // Prints what the calls say of the container; 0 if it conforms, else 1.
 static int tell(uint64_t kind, uint64_t today, size_t size) {
     uint64_t length;
@@ -161,6 +214,7 @@ static int tell(uint64_t kind, uint64_t today, size_t size) {
     again.number = prosianek_check(kind, today, container, size, sheet, 0, &again.place, &again.tag, &room, &length);
     if (!same(again, said) || (room == PROSIANEK_SMALL_ROOM) != (said.number == PROSIANEK_DONE)) off = 1;
     if (!viewed(kind, today, size, said)) off = 1;
+    if (kind == PROSIANEK_FINGERS && !listed(today, size, said)) off = 1;
     return off || said.number != PROSIANEK_DONE;
 }
 

@@ -1,6 +1,6 @@
-// The refusals, across the border: each call answers its number, its place and its tag, and leaves the room that it was lent
-// all zeros, whatever stood there before. tests/linking runs it. It prints a line for each answer that is not as it should be,
-// and then the count of calls; the exit status is 0 only if all are right.
+// The refusals, across the border: each call answers its number, its place and its tag, and leaves the room or the lists that
+// it was lent all zeros, whatever stood there before. tests/linking runs it. It prints a line for each answer that is not as it
+// should be, and then the count of calls; the exit status is 0 only if all are right.
 #include <inttypes.h>
 #include <stdio.h>
 #include <string.h>
@@ -36,12 +36,40 @@ static const uint8_t discovery[20] = {
 // Printed information that conforms: the date 2030JAN31 in 04, which stands at 6, and an issuer of fifteen bytes. The same with
 // the date in eight digits.
 static const uint8_t printed[38] = {
-    0x53, 0x24, 0x01, 0x00, 0x02, 0x00, 0x04, 0x09, '2', '0', '3', '0', 'J', 'A', 'N', '3', '1', 0x05, 0x00, 0x06, 0x0F, 'I', 'S',
-    'S', 'U', 'E', 'R', '-', 'A', 'B', 'C', 'D', 'E', 'F', 'G', 'H', 0xFE, 0x00,
+    0x53, 0x24, 0x01, 0x00, 0x02, 0x00, 0x04, 0x09, '2', '0', '3', '0', 'J', 'A', 'N', '3', '1', 0x05, 0x00, 0x06, 0x0F, 'I',
+    'S', 'S', 'U', 'E', 'R', '-', 'A', 'B', 'C', 'D', 'E', 'F', 'G', 'H', 0xFE, 0x00,
 };
 static const uint8_t eight_digits[37] = {
     0x53, 0x23, 0x01, 0x00, 0x02, 0x00, 0x04, 0x08, '2', '0', '3', '0', '0', '1', '3', '1', 0x05, 0x00, 0x06, 0x0F, 'I', 'S',
     'S', 'U', 'E', 'R', '-', 'A', 'B', 'C', 'D', 'E', 'F', 'G', 'H', 0xFE, 0x00,
+};
+
+// Two fingers that conform, with three points: two in the first view, which stand at 124 and 130, and one in the second, at
+// 142. No two numbers of a list are the same, so that a point in another's place shows, and none of the last point's but its
+// type is 0, so that one which is lost shows.
+static const uint8_t fingers[155] = {
+    0x53, 0x81, 0x98, 0xBC, 0x81, 0x93, 0x03, 0x0D, 0x00, 0x00, 0x00, 0x38, 0x00, 0x03, 0x00, 0x1B,
+    0x02, 0x01, 0x14, 0x1A, 0x03, 0x01, 0x0A, 0x1E, 0x3B, 0x5A, 0x14, 0x1A, 0x03, 0x01, 0x0A, 0x1E,
+    0x3B, 0x5A, 0x14, 0x1A, 0x03, 0x01, 0x0A, 0x1E, 0x3B, 0x5A, 0x00, 0x00, 0x08, 0x80, 0xFE, 0x4D,
+    0x41, 0x4B, 0x45, 0x52, 0x00, 0x00, 0x00, 0x00, 0x00, 0x00, 0x00, 0x00, 0x00, 0x00, 0x00, 0x00,
+    0x00, 0xD4, 0x11, 0x92, 0x58, 0x21, 0x0C, 0x2C, 0x10, 0x84, 0x21, 0xAD, 0xA1, 0x68, 0x58, 0x21,
+    0x08, 0x42, 0x10, 0x84, 0x3C, 0x84, 0x11, 0x92, 0x43, 0xEB, 0x00, 0x00, 0x00, 0x00, 0x46, 0x4D,
+    0x52, 0x00, 0x20, 0x32, 0x30, 0x30, 0x00, 0x38, 0xEE, 0xEE, 0xEE, 0xEE, 0xEE, 0xEE, 0xEE, 0xEE,
+    0xEE, 0xEE, 0x00, 0xC5, 0x00, 0xC5, 0x02, 0x00, 0x02, 0x00, 0x28, 0x02, 0x40, 0x10, 0x3F, 0x22,
+    0x50, 0x32, 0xBF, 0xFF, 0x3F, 0xFF, 0xB3, 0x64, 0x00, 0x00, 0x07, 0x02, 0xFE, 0x01, 0x1F, 0xFF,
+    0x12, 0x34, 0x01, 0x07, 0x00, 0x00, 0x53, 0x49, 0x47, 0xFE, 0x00,
+};
+// The same without points.
+static const uint8_t no_points[137] = {
+    0x53, 0x81, 0x86, 0xBC, 0x81, 0x81, 0x03, 0x0D, 0x00, 0x00, 0x00, 0x26, 0x00, 0x03, 0x00, 0x1B,
+    0x02, 0x01, 0x14, 0x1A, 0x03, 0x01, 0x0A, 0x1E, 0x3B, 0x5A, 0x14, 0x1A, 0x03, 0x01, 0x0A, 0x1E,
+    0x3B, 0x5A, 0x14, 0x1A, 0x03, 0x01, 0x0A, 0x1E, 0x3B, 0x5A, 0x00, 0x00, 0x08, 0x80, 0xFE, 0x4D,
+    0x41, 0x4B, 0x45, 0x52, 0x00, 0x00, 0x00, 0x00, 0x00, 0x00, 0x00, 0x00, 0x00, 0x00, 0x00, 0x00,
+    0x00, 0xD4, 0x11, 0x92, 0x58, 0x21, 0x0C, 0x2C, 0x10, 0x84, 0x21, 0xAD, 0xA1, 0x68, 0x58, 0x21,
+    0x08, 0x42, 0x10, 0x84, 0x3C, 0x84, 0x11, 0x92, 0x43, 0xEB, 0x00, 0x00, 0x00, 0x00, 0x46, 0x4D,
+    0x52, 0x00, 0x20, 0x32, 0x30, 0x30, 0x00, 0x26, 0xEE, 0xEE, 0xEE, 0xEE, 0xEE, 0xEE, 0xEE, 0xEE,
+    0xEE, 0xEE, 0x00, 0xC5, 0x00, 0xC5, 0x02, 0x00, 0x02, 0x00, 0x28, 0x00, 0x00, 0x00, 0x07, 0x02,
+    0xFE, 0x00, 0x00, 0x00, 0x53, 0x49, 0x47, 0xFE, 0x00,
 };
 
 // A face that conforms, with the smallest record: its header stands at 94, the block of its one image at 108 and the image's
@@ -58,8 +86,8 @@ static const uint8_t face[143] = {
     0x01, 0x01, 0x01, 0x00, 0x01, 0x40, 0x01, 0x02, 0x00, 0x00, 0x00, 0x00, 0x30, 0xFE, 0x00,
 };
 
-// An iris that conforms, with the smallest record: its header stands at 94, its one representation at 110, and the fields of the
-// image, which is empty, at 129.
+// An iris that conforms, with the smallest record: its header stands at 94, its one representation at 110, and the fields of
+// the image, which is empty, at 129.
 static const uint8_t iris[165] = {
     0x53, 0x81, 0xA2, 0xBC, 0x81, 0x9D, 0x03, 0x0D, 0x00, 0x00, 0x00, 0x44, 0x00, 0x01, 0x01, 0x01,
     0x00, 0x09, 0x14, 0x1A, 0x03, 0x01, 0x0A, 0x1E, 0x3B, 0x5A, 0x14, 0x1A, 0x03, 0x01, 0x0A, 0x1E,
@@ -80,13 +108,24 @@ static const uint8_t too_large[PROSIANEK_LARGEST_CONTAINER + 1];
 static uint8_t room[1024];
 static uint64_t place, tag, beside, offset, length, numbers[9];
 
+// The five lists, which are lent as the room is, so many numbers of each: types, x, y, angles and qualities. And what they hold
+// of `fingers`.
+enum { LISTS = 5, ENTRIES = PROSIANEK_MOST_POINTS + 1 };
+static uint64_t list[LISTS][ENTRIES], first, second;
+static const uint64_t points[LISTS][3] = {{1, 2, 0}, {16, 16383, 8191}, {16162, 16383, 4660}, {80, 179, 1}, {50, 100, 7}};
+
+// The sizes that are lent: just enough for these points, and no entries.
+static const size_t enough[LISTS] = {3, 3, 3, 3, 3}, empty[LISTS];
+
 static int calls, bad;
 
 // Before each call: something stale in everything that is lent.
 static void stale(void) {
     memset(room, STALE, sizeof room);
-    place = tag = beside = offset = length = STALE;
+    place = tag = beside = offset = length = first = second = STALE;
     for (int i = 0; i < 9; i++) numbers[i] = STALE;
+    for (int k = 0; k < LISTS; k++)
+        for (int i = 0; i < ENTRIES; i++) list[k][i] = STALE;
 }
 
 static void wrong(const char *what, const char *how) {
@@ -165,8 +204,49 @@ static void report(const char *what, uint64_t kind, uint64_t today, const uint8_
     leaves(what, 0, lent);
 }
 
-// A container that breaks a rule: check, with a room and without one, and view all answer its number, its place and its tag. The
-// view asks for an element that no container here has: what it names is not that.
+static uint64_t call_lists(uint64_t today, const uint8_t *c, size_t size, const size_t lent[LISTS]) {
+    return prosianek_lists(today, c, size, list[0], lent[0], list[1], lent[1], list[2], lent[2], list[3], lent[3], list[4],
+                           lent[4], &place, &tag, &first, &second);
+}
+
+// After a call that was lent so many numbers of a list: those of `count` points, zeros up to the list's own end, and nothing
+// touched behind it.
+static void leaves_list(const char *what, int k, size_t count, size_t size) {
+    for (size_t i = 0; i < ENTRIES; i++) {
+        uint64_t expected = i < count ? points[k][i] : i < size ? 0 : STALE;
+        if (list[k][i] == expected) continue;
+        printf("%s: entry %d of list %d is %" PRIu64 ", expected %" PRIu64 "\n", what, (int)i, k, list[k][i], expected);
+        bad = 1;
+        break;
+    }
+}
+
+// After a call: so many points in each view, and the lists.
+static void leaves_lists(const char *what, uint64_t one, uint64_t two, const size_t lent[LISTS]) {
+    if (first != one || second != two) wrong(what, "other counts");
+    for (int k = 0; k < LISTS; k++) leaves_list(what, k, one + two, lent[k]);
+}
+
+// Lists that are refused, with the verdict's place and tag.
+static void no_lists(const char *what, uint64_t today, const uint8_t *c, size_t size, const size_t lent[LISTS],
+                     uint64_t expected, uint64_t where, uint64_t which) {
+    stale();
+    answers(what, call_lists(today, c, size, lent), expected);
+    names(what, where, which);
+    leaves_lists(what, 0, 0, lent);
+}
+
+// Lists of a container that has so many points in each view.
+static void lists(const char *what, const uint8_t *c, size_t size, const size_t lent[LISTS], uint64_t one, uint64_t two) {
+    stale();
+    answers(what, call_lists(TODAY, c, size, lent), PROSIANEK_DONE);
+    names(what, 0, PROSIANEK_NO_TAG);
+    leaves_lists(what, one, two, lent);
+}
+
+// A container that breaks a rule: check, with a room and without one, and view all answer its number, its place and its tag.
+// The view asks for an element that no container here has: what it names is not that. The lists, of FINGERS alone, are refused
+// alike, those that would do and those without entries: a broken rule comes before the 3.
 static void breaks(const char *what, uint64_t kind, const uint8_t *c, size_t size, uint64_t expected, uint64_t where,
                    uint64_t which) {
     for (size_t lent = 0; lent <= 100; lent += 100) {
@@ -181,6 +261,9 @@ static void breaks(const char *what, uint64_t kind, const uint8_t *c, size_t siz
     answers(what, prosianek_view(kind, TODAY, c, size, 0x08, &place, &tag, &offset, &length), expected);
     names(what, where, which);
     if (offset != 0 || length != 0) wrong(what, "an offset or a length");
+    if (kind != PROSIANEK_FINGERS) return;
+    no_lists(what, TODAY, c, size, enough, expected, where, which);
+    no_lists(what, TODAY, c, size, empty, expected, where, which);
 }
 
 // The same of a container in which one byte is another.
@@ -255,6 +338,45 @@ static void printed_dates(void) {
     breaks_at("a month JUN with 31 days", kind, printed, size, 13, 'U', PROSIANEK_BAD_DATE, 6, 0x04);
     breaks_at("a year 2O30", kind, printed, size, 9, 'O', PROSIANEK_BAD_DATE, 6, 0x04);
     breaks("a printed date of eight digits", kind, eight_digits, sizeof eight_digits, PROSIANEK_ELEMENT_LENGTH, 6, 0x04);
+}
+
+// Two fingers that conform, and the same with a byte changed.
+static void fingers_records(void) {
+    const uint64_t kind = PROSIANEK_FINGERS;
+    const size_t size = sizeof fingers;
+    check("check, fingers, no room", kind, TODAY, fingers, size, 0, PROSIANEK_DONE);
+    breaks_at("a type 3", kind, fingers, size, 124, 0xC0, PROSIANEK_BAD_MINUTIAE, 3, 0xBC);
+    breaks_at("a bit before y", kind, fingers, size, 126, 0x7F, PROSIANEK_BAD_MINUTIAE, 3, 0xBC);
+    breaks_at("an angle of 180", kind, fingers, size, 134, 180, PROSIANEK_BAD_MINUTIAE, 3, 0xBC);
+    breaks_at("a quality of 101 in the second view", kind, fingers, size, 147, 101, PROSIANEK_BAD_MINUTIAE, 3, 0xBC);
+    breaks_at("a point more than there is", kind, fingers, size, 141, 2, PROSIANEK_BAD_MINUTIAE, 3, 0xBC);
+    breaks_at("a check character of fingers", kind, fingers, size, 89, 0xEA, PROSIANEK_BAD_FASCN, 3, 0xBC);
+    breaks_at("no FE of fingers", kind, fingers, size - 2, 2, 0x96, PROSIANEK_MISSING_ROW, 153, PROSIANEK_NO_TAG);
+    breaks("a CHUID for fingers", kind, chuid, sizeof chuid, PROSIANEK_UNKNOWN_TAG, 2, 0x30);
+    breaks("a face for fingers", kind, face, sizeof face, PROSIANEK_BAD_HEADER, 3, 0xBC);
+}
+
+// Of lists that would do one is too short, whichever of the five it is.
+static void one_too_short(const char *what, const size_t sizes[LISTS]) {
+    for (int k = 0; k < LISTS; k++) {
+        size_t lent[LISTS];
+        memcpy(lent, sizes, sizeof lent);
+        lent[k] = 2;
+        no_lists(what, TODAY, fingers, sizeof fingers, lent, PROSIANEK_SMALL_ROOM, 0, PROSIANEK_NO_TAG);
+    }
+}
+
+// The points of two fingers, in lists that are long enough, also of different lengths, and in lists that are not. Where there
+// are no points, lists without entries are long enough; their pointers are not null either.
+static void lists_of_points(void) {
+    static const size_t different[LISTS] = {7, 3, 5, PROSIANEK_MOST_POINTS, 4}, few[LISTS] = {0, 1, 0, 2, 1};
+    lists("lists, just enough", fingers, sizeof fingers, enough, 2, 1);
+    lists("lists of different lengths", fingers, sizeof fingers, different, 2, 1);
+    lists("lists of no points, no entries", no_points, sizeof no_points, empty, 0, 0);
+    lists("lists of no points, a few entries", no_points, sizeof no_points, few, 0, 0);
+    no_lists("lists, no entries", TODAY, fingers, sizeof fingers, empty, PROSIANEK_SMALL_ROOM, 0, PROSIANEK_NO_TAG);
+    one_too_short("lists, one too short", enough);
+    one_too_short("lists of different lengths, one too short", different);
 }
 
 // A face record that conforms, and the same with a byte changed; what is wrong in the header comes before.
@@ -352,6 +474,8 @@ int main(void) {
         write("write, bad date", PROSIANEK_CHUID, dates[i], sheet, SHEET_BYTES, 100, PROSIANEK_NO_DATE);
         view("view, bad date", PROSIANEK_CHUID, dates[i], chuid, sizeof chuid, 0x30, PROSIANEK_NO_DATE);
         report("report, bad date", PROSIANEK_CHUID, dates[i], chuid, sizeof chuid, 512, PROSIANEK_NO_DATE);
+        no_lists("lists, bad date", dates[i], fingers, sizeof fingers, enough, PROSIANEK_NO_DATE, 0, PROSIANEK_NO_TAG);
+        no_lists("lists, bad date, empty", dates[i], fingers, sizeof fingers, empty, PROSIANEK_NO_DATE, 0, PROSIANEK_NO_TAG);
     }
 
     // Rooms one byte too small, and of no bytes at all: the pointer is not null there either. A check's 3 stands beside its 0.
@@ -364,9 +488,11 @@ int main(void) {
 
     // A container of no bytes has no outer tag; one of 32,769 is too large.
     refuses("check, no bytes", PROSIANEK_CHUID, TODAY, chuid, 0, PROSIANEK_OUTER_TAG);
+    no_lists("lists, no bytes", TODAY, fingers, 0, enough, PROSIANEK_OUTER_TAG, 0, PROSIANEK_NO_TAG);
     refuses("check, 32,769 bytes", PROSIANEK_CHUID, TODAY, too_large, sizeof too_large, PROSIANEK_LARGE_CONTAINER);
     view("view, 32,769 bytes", PROSIANEK_CHUID, TODAY, too_large, sizeof too_large, 0x30, PROSIANEK_LARGE_CONTAINER);
     report("report, 32,769 bytes", PROSIANEK_CHUID, TODAY, too_large, sizeof too_large, 512, PROSIANEK_LARGE_CONTAINER);
+    no_lists("lists, 32,769 bytes", TODAY, too_large, sizeof too_large, empty, PROSIANEK_LARGE_CONTAINER, 0, PROSIANEK_NO_TAG);
 
     // A report's refusals in their order: the kind, the date, the room, the container.
     report("report, all four wrong", 13, 0, too_large, sizeof too_large, 511, PROSIANEK_UNKNOWN_KIND);
@@ -385,6 +511,8 @@ int main(void) {
     elements();
     rows(sheet);
     printed_dates();
+    fingers_records();
+    lists_of_points();
     face_records();
     iris_records();
     for (uint64_t kind = PROSIANEK_PIVAUTH; kind <= PROSIANEK_CARDAUTH; kind++) certificates(kind);

@@ -1,10 +1,10 @@
-//! desk KIND TODAY FILE: all six calls on the container in a file. It prints the desk report, an empty line, and then what
+//! desk KIND TODAY FILE: all seven calls on the container in a file. It prints the desk report, an empty line, and then what
 //! each of the other calls says. examples/c/desk.c prints the same text, and says what is printed and why no more.
 //!
 //! Exit status, as that of the desk: 0 if the container conforms; 1 if it breaks a rule, the report is refused or the calls
 //! disagree; 2 for bad words, a file that cannot be read whole, or text that cannot be written.
 mod prosianek;
-use prosianek::Refused;
+use prosianek::{Point, Refused};
 use std::io::{self, Write};
 use std::process::exit;
 
@@ -20,6 +20,12 @@ fn tag_of(kind: u64) -> u64 {
         _ => 0x70,
     }
 }
+
+/// Where the views stand in the value of BC: the byte with the first one's count is there, and its points follow. Between a
+/// view's last point and the next view's count are five bytes.
+const FIRST_COUNT: usize = 117;
+const POINT_BYTES: usize = 6;
+const BETWEEN_VIEWS: usize = 5;
 
 /// A word of digits. parse alone would take a plus sign too.
 fn number_of(word: &str) -> Option<u64> {
@@ -95,6 +101,7 @@ fn tell(out: &mut impl Write, kind: u64, today: u64, container: &[u8]) -> io::Re
     off |= prosianek::check(kind, today, container, &mut []) != verdict.map(|_| None);
 
     off |= !viewed(out, kind, today, container, verdict.err())?;
+    off |= kind == prosianek::FINGERS && !listed(out, today, container, verdict.err())?;
     Ok(!off && verdict.is_ok())
 }
 
@@ -120,6 +127,64 @@ fn viewed(
             Ok(back && said.is_none())
         }
     }
+}
+
+/// Lists the points of a FINGERS container; whether they came back and the answer fits the check's. The call takes no kind: it
+/// answers as the check of this kind does, where a rule is broken.
+fn listed(
+    out: &mut impl Write,
+    today: u64,
+    container: &[u8],
+    said: Option<Refused>,
+) -> io::Result<bool> {
+    // as long as any answer
+    let mut list = [Point::default(); prosianek::MOST_POINTS];
+    match prosianek::points(today, container, &mut list) {
+        Err(r) => {
+            refused(out, "lists", r)?;
+            Ok(said == Some(r))
+        }
+        Ok((first, second)) => {
+            let (one, behind) = list.split_at(first);
+            if !put_back(today, container, one, &behind[..second]) {
+                writeln!(out, "lists: the points did not come back")?;
+                return Ok(false);
+            }
+            writeln!(out, "lists: the points came back byte for byte")?;
+            Ok(said.is_none())
+        }
+    }
+}
+
+/// Whether the points of both views, put back, are the bytes of the container that they were read from.
+fn put_back(today: u64, container: &[u8], first: &[Point], second: &[Point]) -> bool {
+    let kind = prosianek::FINGERS;
+    match prosianek::view(kind, today, container, tag_of(kind)) {
+        Err(_) => false,
+        Ok(range) => {
+            let view = &container[range][FIRST_COUNT..];
+            let next = 1 + POINT_BYTES * first.len() + BETWEEN_VIEWS;
+            same_view(view, first) && same_view(&view[next..], second)
+        }
+    }
+}
+
+/// Whether these points, put back, are the view whose count is the first of these bytes.
+fn same_view(view: &[u8], points: &[Point]) -> bool {
+    let mut pairs = view[1..].chunks_exact(POINT_BYTES).zip(points);
+    usize::from(view[0]) == points.len()
+        && view.len() > POINT_BYTES * points.len()
+        && pairs.all(|(six, point)| same_point(six, point))
+}
+
+/// Whether a point, put back, is these six bytes. Whole numbers are compared, so that none is cut to a byte.
+fn same_point(bytes: &[u8], point: &Point) -> bool {
+    let one = |at: usize| u64::from(bytes[at]);
+    let two = |at: usize| one(at) * 256 + one(at + 1);
+    two(0) == point.sort * 16_384 + point.x
+        && two(2) == point.y
+        && one(4) == point.angle
+        && one(5) == point.quality
 }
 
 /// Writes the container of a sheet; whether it is the one that the sheet was read from. A container with a length in a longer

@@ -27,13 +27,14 @@ pub const FASCN_BYTES: usize = 25;
 pub const LARGEST_CONTAINER: usize = 32_768;
 /// A room of this size holds the sheet of any container.
 pub const SHEET_ROOM: usize = 32_774;
-/// A list of this size holds the points of any container.
+/// A list of this many points holds those of any container.
 pub const MOST_POINTS: usize = 256;
-/// What prosianek_check, prosianek_write and prosianek_view write for no tag, which no tag can be. Refused has None for it.
+/// What prosianek_check, prosianek_write, prosianek_view and prosianek_lists write for no tag, which no tag can be. Refused has
+/// None for it.
 pub const NO_TAG: u64 = 65_536;
 
-/// A refusal: its number, as include/prosianek.h lists them, the place of the first broken rule, and the tag of the element that
-/// is meant, such as 0x30 or 0x5F2F. The header says which numbers carry a tag.
+/// A refusal: its number, as include/prosianek.h lists them, the place of the first broken rule, and the tag of the element
+/// that is meant, such as 0x30 or 0x5F2F. The header says which numbers carry a tag.
 #[derive(Clone, Copy, Debug, PartialEq, Eq)]
 pub struct Refused {
     pub number: u64,
@@ -41,8 +42,8 @@ pub struct Refused {
     pub tag: Option<u64>,
 }
 
-/// A point (minutia) of a finger: its type, 0 to 2, where it is, 0 to 16,383 each, its angle, 0 to 179, and its quality, 0 to 100.
-/// The default has zeros alone, as an entry behind the last point has.
+/// A point (minutia) of a finger: its type, 0 to 2, where it is, 0 to 16,383 each, its angle, 0 to 179, as the card has it, and
+/// its quality, 0 to 100. The default has zeros alone, as an entry behind the last point has.
 #[derive(Clone, Copy, Debug, Default, PartialEq, Eq)]
 pub struct Point {
     pub sort: u64,
@@ -121,8 +122,8 @@ extern "C" {
     pub fn prosianek_fascn_encode(numbers: *const [u64; 9], room: *mut u8, size: usize) -> u64;
 }
 
-// In each unsafe block below: every pointer with its size is that of a slice, every other pointer that of a number or an
-// array of this function, and the exclusive references are distinct.
+// In each unsafe block below: every pointer with its size is that of a slice, or of an array of this function that is at least
+// so long, every other pointer that of a number or an array of this function, and the exclusive references are distinct.
 
 fn answer<T>(number: u64, place: u64, tag: u64, value: T) -> Result<T, Refused> {
     if number == 0 {
@@ -134,9 +135,9 @@ fn answer<T>(number: u64, place: u64, tag: u64, value: T) -> Result<T, Refused> 
 }
 
 /// Whether a container conforms, or the first broken rule. The value sheet of one that conforms is written into the room, and
-/// its length is given; or none, where the room is under that length (the 3 beside a verdict of 0). So an empty room asks for the
-/// verdict alone. Zeros follow a sheet, and where none is written the room is all zeros; so it is, on a success and on a refusal,
-/// in all calls that are lent a room.
+/// its length is given; or none, where the room is under that length (the 3 beside a verdict of 0). So an empty room asks for
+/// the verdict alone. Zeros follow a sheet, and where none is written the room is all zeros; so it is, on a success and on a
+/// refusal, in all calls that are lent a room.
 pub fn check(
     kind: u64,
     today: u64,
@@ -229,14 +230,11 @@ pub fn report(kind: u64, today: u64, container: &[u8], room: &mut [u8]) -> Resul
     answer(number, 0, NO_TAG, length as usize)
 }
 
-/// Fills the list with the points of a FINGERS container that conforms, the first view's and then the second's, and gives how many
-/// each view has. Entries behind the last are all zero, and so is the whole list on a refusal: that of check, or 3 for a list that
-/// is shorter than both counts together. The points are personal, and no report has them.
-pub fn points(
-    today: u64,
-    container: &[u8],
-    list: &mut [Point],
-) -> Result<(usize, usize), Refused> {
+/// Fills the list with the points of a FINGERS container that conforms, the first view's and then the second's, and gives how
+/// many the first view has, and the second. Entries behind the last are all zero, and so is the whole list on a refusal: that
+/// of check as FINGERS, or then 3 for a list that is shorter than both counts together. A list of MOST_POINTS is always long
+/// enough. The points are personal, and no report has them.
+pub fn points(today: u64, container: &[u8], list: &mut [Point]) -> Result<(usize, usize), Refused> {
     // No container has more points, so that a longer list needs no longer lists here.
     let size = list.len().min(MOST_POINTS);
     let mut lists = [[0; MOST_POINTS]; 5];

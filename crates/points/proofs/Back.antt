@@ -1,18 +1,19 @@
 -- What a record shows is read back from its bytes: so it shows no other points. Assumes nothing.
-use Prim.Native.Nat.{ℕ, _+_, _*_, _/_, _%_}
+use Prim.Native.Nat.{ℕ, zero, suc, _+_, _*_, _/_, _%_, _<_}
 use mathlib.Core.Path.{_≡_, refl, sym, ap, ap₂, _∙_}
 use mathlib.Core.List.{List, [], _∷_, _++_, append-assoc}
 use native.Mathlib.Omega.{arith}
-use lib.ListN.{length, take, drop, length-append}
+use lib.ListN.{length, take, drop, getD, length-append}
 use lib.Seq.{drop-drop, drop-at, take-at}
 use Rattle.laws.specs.Digits.{digits, value}
-use Rattle.laws.specs.Layout.{number, field}
+use Rattle.laws.specs.Layout.{number, field, part}
 use Rattle.laws.proofs.Bases.{length-digits}
 use Rattle.laws.proofs.Layouts.{written}
 use Rattle.points.specs.Points.{InRange, pointBytes, pointsBytes, AllInRange, IsView, Shows}
+use Rattle.points.specs.Calls.{nothing}
 use Rattle.points.specs.Places.{pointAt}
 use Rattle.points.specs.declared.Point.{Point}
-use Rattle.points.proofs.Record.{pointsOf, firstCount, firstPoints, secondPoints}
+use Rattle.points.proofs.Record.{pointsOf, firstCount, secondCount, firstPoints, secondPoints}
 
 -- ---- a point
 
@@ -82,16 +83,50 @@ view-at d k s ps r v e = (
 
 -- ---- the record
 
-pub shows-back : (d : List ℕ) (first second : List Point) → Shows d first second → (first ≡ firstPoints d) × (second ≡ secondPoints d)
-shows-back d first second h =
+-- how many points each view has, and what stands from its first point on
+shows-told : (d : List ℕ) (first second : List Point) (h : Shows d first second)
+    → (firstCount d ≡ length first)
+    × (drop 30 d ≡ pointsBytes first ++ (number 2 0 ++ (h .two ++ [])))
+    × (secondCount d ≡ length second)
+    × (drop (36 + 6 * length first) d ≡ pointsBytes second ++ (number 2 0 ++ []))
+shows-told d first second h =
     let more : List ℕ = h .two ++ [] in
     let e : drop 26 d ≡ h .one ++ more = rw (h .bytes) (drop-at (h .front) (h .one ++ (h .two ++ [])) 26 (h .front-is)) in
     let a = view-at d 26 (h .one) first more (h .first-view) e in
-    let n : 26 + length (h .one) ≡ 32 + 6 * firstCount d = rw (a .0, view-long (h .one) first (h .first-view)) (omega arith) in
-    let f : drop (32 + 6 * firstCount d) d ≡ more = rw (← n, ← drop-drop (length (h .one)) 26 d, e) (drop-at (h .one) more (length (h .one)) refl) in
-    let b = view-at d (32 + 6 * firstCount d) (h .two) second [] (h .second-view) f in
-    let p : 32 + 6 * firstCount d + 3 ≡ 35 + 6 * firstCount d = omega arith in
-    let q : 32 + 6 * firstCount d + 4 ≡ 36 + 6 * firstCount d = omega arith in (
-      sym (rw (a .0, a .1) (points-back first (h .first-view .in-range) (number 2 0 ++ more))),
-      sym (rw (rw p at (b .0), rw q at (b .1)) (points-back second (h .second-view .in-range) (number 2 0 ++ []))),
+    let n : 26 + length (h .one) ≡ 32 + 6 * length first = rw (view-long (h .one) first (h .first-view)) (omega arith) in
+    let f : drop (32 + 6 * length first) d ≡ more = rw (← n, ← drop-drop (length (h .one)) 26 d, e) (drop-at (h .one) more (length (h .one)) refl) in
+    let b = view-at d (32 + 6 * length first) (h .two) second [] (h .second-view) f in
+    let p : 32 + 6 * length first + 3 ≡ 35 + 6 * length first = omega arith in
+    let q : 32 + 6 * length first + 4 ≡ 36 + 6 * length first = omega arith in
+    (a .0, a .1, rw (a .0, ← p) (b .0), rw (← q) (b .1))
+
+pub shows-back : (d : List ℕ) (first second : List Point) → Shows d first second → (first ≡ firstPoints d) × (second ≡ secondPoints d)
+shows-back d first second h =
+    let (m, f, n, s) = shows-told d first second h in (
+      sym (rw (m, f) (points-back first (h .first-view .in-range) _)),
+      sym (rw (n, m, s) (points-back second (h .second-view .in-range) _)),
     )
+
+-- ---- "Each point, put back, gives its six bytes"
+
+points-at : (ps : List Point) (i : ℕ) (r : List ℕ) → i < length ps → part (pointsBytes ps ++ r) (6 * i) 6 ≡ pointBytes (getD ps i nothing)
+points-at [] i r h = absurd (omega arith)
+points-at (p ∷ ps) zero r h = rw append-assoc (take-at (pointBytes p) (pointsBytes ps ++ r) 6 (point-long p))
+points-at (p ∷ ps) (suc i) r h =
+    let e : 6 * suc i ≡ 6 + 6 * i = omega arith in
+    rw (append-assoc, e, ← drop-drop (6 * i) 6 (pointBytes p ++ (pointsBytes ps ++ r)), drop-at (pointBytes p) (pointsBytes ps ++ r) 6 (point-long p)) (points-at ps i r (omega arith))
+
+-- where each stands in the record
+pub shows-points : (d : List ℕ) (first second : List Point) → Shows d first second
+    → ((i : ℕ) → i < length first → part d (30 + 6 * i) 6 ≡ pointBytes (getD first i nothing))
+    × ((i : ℕ) → i < length second → part d (36 + 6 * length first + 6 * i) 6 ≡ pointBytes (getD second i nothing))
+shows-points d first second h =
+    let t = shows-told d first second h in (
+      λ i l. sym (ap (take 6) (drop-drop (6 * i) 30 d)) ∙ rw (t .1) (points-at first i _ l),
+      λ i l. sym (ap (take 6) (drop-drop (6 * i) (36 + 6 * length first) d)) ∙ rw (t .3) (points-at second i _ l),
+    )
+
+-- "Record length = 26 + 12 + 6(m1 + m2)"
+pub shows-long : (d : List ℕ) (first second : List Point) → Shows d first second → length d ≡ 38 + 6 * length first + 6 * length second
+shows-long d first second h =
+    rw (h .bytes, length-append, length-append, length-append, h .front-is, view-long (h .one) first (h .first-view), view-long (h .two) second (h .second-view)) (omega arith)

@@ -1,19 +1,18 @@
 -- What stands at an offset, of a part of some bytes and of a plan. Assumes nothing.
-use Prim.Native.Nat.{ℕ, _+_, _-_, _*_, _/_, _%_, _<_, _≤_}
+use Prim.Native.Nat.{ℕ, _+_, _*_, _/_, _%_, _<_, _≤_}
 use mathlib.Core.Path.{_≡_, sym, ap, _∙_}
-use mathlib.Core.List.{List, _++_, map}
-use lib.ListN.{length, take}
-use Rattle.laws.specs.Room.{zeros}
+use mathlib.Core.List.{List}
+use lib.ListN.{length}
 use native.Mathlib.Omega.{arith}
 use borrow.Author.Tests.{lt-ltb, le-ltb}
 use Rattle.laws.specs.Digits.{value}
 use Rattle.laws.specs.Layout.{field, part}
 use Rattle.laws.proofs.Layouts.{part-part}
-use Rattle.points.specs.Calls.{nothing, entries}
-use Rattle.points.specs.Places.{pointAt, entryOf, along, spliced, Inside}
+use Rattle.points.specs.Calls.{nothing, FillsPoints}
+use Rattle.points.specs.Places.{pointAt, entryOf, along, answerOf, Inside, Plans}
 use Rattle.points.specs.declared.Point.{Point}
 use Rattle.points.specs.declared.Plan.{Plan}
-use Rattle.points.proofs.Filling.{spliced-twice, cleared}
+use Rattle.points.proofs.Along.{entries-along}
 
 -- ---- of a part
 
@@ -59,22 +58,12 @@ module _ (c : List ℕ) (plan : Plan) (i : ℕ) where
     pub within-second : plan .first ≤ i → i < plan .first + plan .second → plan .at + 6 * i + 6 + 6 ≤ n
     within-second h l = rw (le-ltb _ _ h) at (inside .within i l)
 
--- ---- a list in which the points of one view are put, and then those of the other, and which is cleared behind them
+-- ---- a list of points that has every entry of a plan
 
-pub both-views : (c : List ℕ) (plan : Plan) (g : Point → ℕ) (before one two after : List ℕ) → g nothing ≡ 0 → plan .first + plan .second ≤ length before
-    → one ≡ spliced (λ i. g (pointAt c (plan .at + 6 * i))) 0 (plan .first) before
-    → two ≡ spliced (λ i. g (pointAt c (plan .at + 6 * plan .first + 6 + 6 * i))) (plan .first) (plan .second) one
-    → let n : ℕ = plan .first + plan .second in after ≡ take n two ++ zeros (length two - n) → after ≡ map g (entries (along (entryOf c plan) 0 n) (length before))
-both-views c plan g before one two after z h p q a =
-    let n : ℕ = plan .first + plan .second in
-    let e : two ≡ spliced (λ i. g (entryOf c plan i)) 0 n before =
-    q ∙ rw p (spliced-twice _ _ (λ i. g (entryOf c plan i)) (plan .first) (plan .second) before h first second) in
-    a ∙ rw e (cleared g z (entryOf c plan) n before h)
-  where
-    first : (i : ℕ) → i < plan .first → g (pointAt c (plan .at + 6 * (0 + i))) ≡ g (entryOf c plan (0 + i))
-    first i l = ap g (sym (entry-first c plan (0 + i) (omega arith)))
-
-    second : (i : ℕ) → i < plan .second → g (pointAt c (plan .at + 6 * plan .first + 6 + 6 * (0 + i))) ≡ g (entryOf c plan (0 + plan .first + i))
-    second i l =
-        let k : plan .at + 6 * plan .first + 6 + 6 * (0 + i) ≡ plan .at + 6 * (0 + plan .first + i) + 6 = omega arith in
-        ap g (sym (entry-second c plan (0 + plan .first + i) (omega arith) (omega arith) ∙ ap (pointAt c) (sym k)))
+pub filled-points : {today : ℕ} {c : List ℕ} {plan : Plan} {after : List Point} (before : List Point) → Plans today c (length before) plan
+    → after ≡ along (entryOf c plan) 0 (length before) → FillsPoints today c before after (answerOf plan)
+filled-points {c = c} {plan} before p e = record {
+  listed = along (entryOf c plan) 0 (plan .first + plan .second);
+  says = p .says;
+  left = e ∙ sym (entries-along (entryOf c plan) 0 (plan .first + plan .second) (length before) (λ i h. entry-past c plan i (omega arith)));
+}

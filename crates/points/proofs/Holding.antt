@@ -18,7 +18,7 @@ use Rattle.points.specs.Points.{dataOf, Shows}
 use Rattle.points.specs.Places.{pointAt, entryOf, along, firstOf, secondOf, Stands}
 use Rattle.points.specs.declared.Point.{Point}
 use Rattle.points.specs.declared.Plan.{Plan}
-use Rattle.points.proofs.Filling.{along-same, along-join}
+use Rattle.points.proofs.Along.{along-same, along-join}
 use Rattle.points.proofs.Record.{firstCount, secondCount, firstPoints, secondPoints, points-along, record-shows}
 use Rattle.points.proofs.Entries.{field-in, point-in, entry-first, entry-second}
 
@@ -29,7 +29,13 @@ first-value today [] a = absurd a
 first-value today (none ∷ vs) a = absurd (true≢false (sym (a .0)))
 first-value today (some v ∷ vs) a = (v, refl, a .0 .rule)
 
--- ---- the record in the value of BC, which is so many bytes of the container
+-- ---- the record in the value of BC
+
+pub value-shows : (v : List ℕ) → Bytes v → IsBiometric fingers v
+    → let d = dataOf v in Shows d (firstPoints d) (secondPoints d) × (firstCount d ≤ 128) × (secondCount d ≤ 128) × (38 + 6 * firstCount d + 6 * secondCount d ≡ length d)
+value-shows v b g = record-shows (dataOf v) (below-take 256 (field v 2 4) _ (below-drop 256 88 v b)) (data-inside fingers v b g .0)
+
+-- ---- and in the container, of which that value is so many bytes
 
 module _ (c : List ℕ) (b : Bytes c) (start k : ℕ) (l : start + k ≤ length c) (g : IsBiometric fingers (part c start k)) where
   abbrev v : List ℕ
@@ -45,7 +51,7 @@ module _ (c : List ℕ) (b : Bytes c) (start k : ℕ) (l : start + k ≤ length 
   size = data-inside fingers v bytes g .1 ∙ part-long c start k l
 
   pub shown : Shows d (firstPoints d) (secondPoints d) × (firstCount d ≤ 128) × (secondCount d ≤ 128) × (38 + 6 * firstCount d + 6 * secondCount d ≡ length d)
-  shown = record-shows d (below-take 256 (field v 2 4) _ (below-drop 256 88 v bytes)) (data-inside fingers v bytes g .0)
+  shown = value-shows v bytes g
 
   long : length d ≡ field v 2 4
   long = part-long v 88 (field v 2 4) (rw (part-long c start k l) (omega (arith, size)))

@@ -1,7 +1,7 @@
-pub mod Filling
+pub mod Along
 pub mod Record
 pub mod Back
 pub mod Entries
 pub mod Holding
 pub mod Ways
-pub mod Filled
+pub mod Once

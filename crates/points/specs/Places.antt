@@ -1,8 +1,8 @@
--- Where the points stand in a container, as the code goes through them. Nothing of 01 is said here; proofs/Reading.antt ties it to the record.
+-- Where the points stand in a container, as the code goes through them. Nothing of 01 is said here; proofs/Holding.antt ties it to the record.
 use Prim.Native.Nat.{ℕ, zero, suc, _+_, _*_, _/_, _%_, _<_, _≤_}
 use mathlib.Core.Bool.{cond}
-use mathlib.Core.List.{List, [], _∷_, _++_}
-use lib.ListN.{length, take, drop}
+use mathlib.Core.List.{List, [], _∷_}
+use lib.ListN.{length}
 use lib.Dec.{ltb}
 use Rattle.laws.specs.Layout.{field}
 use Rattle.verdicts.specs.Verdicts.{outright, verdictOf}
@@ -10,7 +10,7 @@ use Rattle.verdicts.specs.declared.Fault.the-variants.{SmallRoom}
 use Rattle.verdicts.specs.declared.Outcome.the-variants.{Fine, Broken}
 use Rattle.verdicts.specs.declared.Verdict.{Verdict}
 use Rattle.container.specs.Container.{largest}
-use Rattle.points.specs.Calls.{nothing, Five, Says}
+use Rattle.points.specs.Calls.{nothing, Says}
 use Rattle.points.specs.declared.Point.{Point}
 use Rattle.points.specs.declared.Plan.{Plan}
 use Rattle.points.specs.declared.Listed.{Listed}
@@ -38,21 +38,6 @@ entryOf c plan i = cond (ltb i (plan .first + plan .second)) (pointAt c (placeOf
 unfoldable pub along : {A : Type 0} → (ℕ → A) → ℕ → ℕ → List A
 along f i zero = []
 along f i (suc n) = f i ∷ along f (suc i) n
-
--- a list in which n entries are replaced, from one on
-unfoldable pub spliced : {A : Type 0} → (ℕ → A) → ℕ → ℕ → List A → List A
-spliced f from n l = take from l ++ along f 0 n ++ drop (from + n) l
-
--- n points that stand one after the other lie within the bytes
-abbrev pub Row : List ℕ → ℕ → ℕ → Type 0
-Row c at n = (i : ℕ) → i < n → at + 6 * i + 6 ≤ length c
-
--- the smaller number, and how many entries the shortest of five lists has
-abbrev pub fewer : ℕ → ℕ → ℕ
-fewer a b = cond (ltb a b) a b
-
-abbrev pub shortest : Five → ℕ
-shortest l = fewer (length (l .types)) (fewer (length (l .xs)) (fewer (length (l .ys)) (fewer (length (l .angles)) (length (l .qualities)))))
 
 -- nothing is listed
 abbrev pub noPlan : Verdict → Plan

@@ -1,4 +1,4 @@
--- Demand 1, of all six calls. Assumes nothing.
+-- Demand 1, of all eight calls. Assumes nothing.
 use Prim.Native.Nat.{ℕ, _+_, _≤_}
 use mathlib.Core.Logic.{_⊎_, inl, inr}
 use mathlib.Core.Path.{_≡_, refl, sym, ap, _∙_}
@@ -36,6 +36,7 @@ use Rattle.report.proofs.Answers.{report-cases}
 use Rattle.prosianek.proofs.Checking.{answered}
 use Rattle.prosianek.proofs.Decoding.{is-decoded, decoded-else}
 use Rattle.promises.specs.Demands.{Numbered, Clean, Demand1}
+use Rattle.promises.proofs.Listing.{lists-answer, points-answer, lists-clean, points-clean, no-counts}
 use Rattle.promises.proofs.Rooms.{answer, Fits, left-nothing, left-text, clean}
 
 -- ---- every number is of 01's table
@@ -116,11 +117,15 @@ demand-1 = record {
     viewed-numbered kind today c element,
   );
   report-answers = λ kind today c before. (_, _, record { leaves = answer (reportOutput kind today c (length before)) before });
+  lists-answers = λ today c before b. lists-answer b before;
+  points-answers = λ today c before b. points-answer b before;
   decode-answers = λ s b. (decoded s, is-decoded s b refl, decoded-numbered s);
   encode-answers = λ n before. (_, _, record { leaves = record { answer = refl; room = refl } });
   check-clean = λ kind today c before after r h. check-clean (h .says);
   write-clean = λ kind today s before after r h. write-clean (h .puts);
   report-clean = λ kind today c before after r h. clean (reportOutput kind today c (length before)) before (report-fits kind today c (length before)) (h .leaves);
   encode-clean = λ n before after number h. encode-clean n before after number (h .leaves);
+  lists-clean = λ today c before after r h. (lists-clean (h .fills), no-counts (h .fills .says));
+  points-clean = λ today c before after r h. (points-clean (h .fills), no-counts (h .fills .says));
   decode-clean = λ s r d z. let e = decoded-else s d z in (ap (λ (x : Decoded). x .number) e, ap (λ (x : Decoded). x .numbers) e);
 }

@@ -1,4 +1,5 @@
 pub mod Rooms
+pub mod Listing
 pub mod Demand1
 pub mod Demand2
 pub mod Demand3

@@ -15,7 +15,9 @@ use Rattle.writing.proofs.Calls.{leaves}
 use Rattle.prosianek.proofs.Checking.{only}
 use Rattle.prosianek.proofs.Decoding.{decoded-once}
 use Rattle.capi.specs.Calls.{numbersOf}
+use Rattle.points.specs.declared.Listed.{Listed}
 use Rattle.promises.specs.Demands.{Settled, SettledForC}
+use Rattle.promises.proofs.Listing.{lists-once, points-once}
 
 pub settled : Settled
 settled = record {
@@ -32,6 +34,8 @@ settled = record {
     a .shows .bytes-are ∙ sym (b .shows .bytes-are),
   );
   one-report = λ kind today c before₁ before₂ after₁ after₂ r₁ r₂ h a b. settled-output _ before₁ before₂ h (a .leaves) (rw h (b .leaves));
+  one-lists = λ today c before₁ before₂ after₁ after₂ r₁ r₂ y e a b. lists-once y before₁ before₂ after₁ after₂ r₁ r₂ e (a .fills) (b .fills);
+  one-points = λ today c before₁ before₂ after₁ after₂ r₁ r₂ y e a b. points-once y before₁ before₂ after₁ after₂ r₁ r₂ e (a .fills) (b .fills);
   one-decode = λ s r₁ r₂. decoded-once s;
   one-encode = λ n before₁ before₂ after₁ after₂ k₁ k₂ h a b. (
     a .leaves .answer ∙ rw h (sym (b .leaves .answer)),
@@ -82,6 +86,15 @@ settled-for-c = record {
   one-report = λ kind today c before₁ before₂ after₁ after₂ n₁ n₂ l₁ l₂ h a b.
       let (e, f) = settled .one-report kind today c before₁ before₂ after₁ after₂ _ _ h (a .answers) (b .answers) in
       (ap (λ (d : Done). d .number) e, ap (λ (d : Done). d .length) e, f);
+  one-lists = λ today c before₁ before₂ after₁ after₂ n₁ n₂ p₁ p₂ t₁ t₂ f₁ f₂ s₁ s₂ y h a b.
+      let (e, f) = settled .one-lists today c before₁ before₂ after₁ after₂ _ _ y h (a .answers) (b .answers) in (
+        ap (λ (r : Listed). r .verdict .number) e,
+        ap (λ (r : Listed). r .verdict .place) e,
+        same-tag (a .tag-is) (b .tag-is) (ap (λ (r : Listed). r .verdict .tag) e),
+        ap (λ (r : Listed). r .first) e,
+        ap (λ (r : Listed). r .second) e,
+        f,
+      );
   one-decode = λ s n₁ n₂ nine₁ nine₂ x y.
       let e = decoded-once s (x .answers) (y .answers) in
       (ap (λ (d : Decoded). d .number) e, nine-of nine₁ nine₂ (x .nine) (y .nine) (ap (λ (d : Decoded). d .numbers) e));

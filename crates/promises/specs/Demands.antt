@@ -1,25 +1,26 @@
--- The user's three demands, in the user's order and words, as statements about the six calls of the door (`Checks`, `Writes`, `Views`, `Reports`,
--- `Decodes`, `Encodes`: what a call answers and leaves; `Judges`: the verdict that a check gives). Each is a record of statements, and `proofs/` has the
--- theorem for each: `demand-1`, `demand-2`, `demand-3`; `at-the-desk`, the third of what the desk program prints; `no-long-report`, what 2026-12 asks for;
--- `settled` and `settled-for-c`, that no answer is left open.
+-- The user's three demands, in the user's order and words, as statements about the eight calls of the door (`Checks`, `Writes`, `Views`, `Reports`, `Lists`,
+-- `Points`, `Decodes`, `Encodes`: what a call answers and leaves; `Judges`: the verdict that a check gives). Each is a record of statements, and `proofs/` has
+-- the theorem for each: `demand-1`, `demand-2`, `demand-3`; `at-the-desk`, the third of what the desk program prints; `no-long-report` and `as-a-list`, what
+-- 2026-12 and 2026-10 ask for; `settled` and `settled-for-c`, that no answer is left open.
 --
 -- A room is `before` when it is lent and `after` when it comes back. `Bytes c` says that each number of c is below 256, as it is in every slice that a
 -- program can give.
-use Prim.Native.Nat.{ℕ, _+_, _-_, _≤_, _<_}
+use Prim.Native.Nat.{ℕ, _+_, _*_, _-_, _≤_, _<_}
 use mathlib.Core.Logic.{_⊎_, _↔_}
 use mathlib.Core.Path.{_≡_}
 use mathlib.Core.Bool.{Bool}
 use mathlib.Core.Option.{none, some}
-use mathlib.Core.List.{List, []}
-use lib.ListN.{length, take, drop, getD}
+use mathlib.Core.List.{List, [], _∷_, _++_, map}
+use lib.ListN.{length, take, drop, getD, replicate}
 use Rattle.laws.specs.Bytes.{Bytes}
 use Rattle.laws.specs.Room.{zeros, filled}
+use Rattle.laws.specs.Layout.{part}
 use Rattle.dates.specs.Date.{IsDate, IsTextDate}
 use Rattle.fascn.specs.Fascn.{IsFascnOf, IsFascn}
 use Rattle.fascn.specs.Calls.{noNumbers}
 use Rattle.fascn.specs.declared.Numbers.{Numbers}
 use Rattle.fascn.specs.declared.Decoded.{Decoded}
-use Rattle.verdicts.specs.Verdicts.{numberOf, noTag, tagNumber, found}
+use Rattle.verdicts.specs.Verdicts.{numberOf, noTag, tagNumber, outright, found}
 use Rattle.verdicts.specs.Output.{refusal, doneOf}
 use Rattle.verdicts.specs.declared.Fault.{Fault}
 use Rattle.verdicts.specs.declared.Fault.the-variants.{UnknownKind, NoDate, SmallRoom, LargeContainer, NoElement, BadFascn}
@@ -41,9 +42,13 @@ use Rattle.report.specs.Report.{reportText}
 use Rattle.report.specs.Longest.{longestOf}
 use Rattle.writing.specs.InOrder.{Refused}
 use Rattle.views.specs.Views.{placeOf}
-use Rattle.prosianek.specs.Calls.{Judges, Checks, Writes, Views, Reports, Decodes, Encodes}
+use Rattle.points.specs.Points.{pointBytes, HasPoints}
+use Rattle.points.specs.Calls.{nothing, entries, Five, five, listsOf, HoldsEach, refusedBy, counted}
+use Rattle.points.specs.declared.Point.{Point}
+use Rattle.points.specs.declared.Listed.{Listed}
+use Rattle.prosianek.specs.Calls.{Judges, Checks, Writes, Views, Reports, Lists, Points, Decodes, Encodes}
 use Rattle.printout.specs.Printout.{refusedText, printed, kindText, Asks}
-use Rattle.capi.specs.Calls.{CChecks, CWrites, CViews, CReports, CDecodes, CEncodes}
+use Rattle.capi.specs.Calls.{CChecks, CWrites, CViews, CReports, CLists, CDecodes, CEncodes}
 
 -- ---- Demand 1. "Every byte string, date and room size gets an answer, and every call ends. Bad input is refused by number, without the caller having
 -- checked it. A refusal leaves the lent output room all zeros; a success leaves zeros after the last byte of output."
@@ -54,13 +59,25 @@ use Rattle.capi.specs.Calls.{CChecks, CWrites, CViews, CReports, CDecodes, CEnc
 abbrev pub Numbered : ℕ → Type 0
 Numbered n = (n ≡ 0) ⊎ ((f : Fault) × (n ≡ numberOf f))
 
--- a call answered this number and wrote so many bytes: a refusal left zeros alone, and behind the output there are zeros
-pub record Clean (before after : List ℕ) (number size : ℕ) : Type 0 where
+-- a call answered this number and wrote so many entries: a refusal left empty ones alone, and behind the output there are empty ones
+pub record CleanOf {A : Type 0} (empty : A) (before after : List A) (number size : ℕ) : Type 0 where
   pub by-number : Numbered number
   pub same-room : length after ≡ length before
-  pub refused : (number ≡ 0 → ⊥) → after ≡ zeros (length before)
+  pub refused : (number ≡ 0 → ⊥) → after ≡ replicate (length before) empty
   pub inside : size ≤ length before
-  pub behind : drop size after ≡ zeros (length before - size)
+  pub behind : drop size after ≡ replicate (length before - size) empty
+
+-- in a room of bytes, or in a list of numbers, an empty one is a zero
+abbrev pub Clean : List ℕ → List ℕ → ℕ → ℕ → Type 0
+Clean before after number size = CleanOf 0 before after number size
+
+-- each of five lists
+pub record CleanEach (before after : Five) (number size : ℕ) : Type 0 where
+  pub types : Clean (before .types) (after .types) number size
+  pub xs : Clean (before .xs) (after .xs) number size
+  pub ys : Clean (before .ys) (after .ys) number size
+  pub angles : Clean (before .angles) (after .angles) number size
+  pub qualities : Clean (before .qualities) (after .qualities) number size
 
 pub record Demand1 : Type 0 where
   -- there is an answer, whatever is given and whatever a room held
@@ -69,6 +86,8 @@ pub record Demand1 : Type 0 where
   pub view-answers : (kind today : ℕ) (c : List ℕ) (element : ℕ) (at : ℕ × ℕ)
       → (number place tag : ℕ) × (part : ℕ × ℕ) × (bytes : List ℕ) × Views kind today c element at number place tag part bytes × Numbered number
   pub report-answers : (kind today : ℕ) (c before : List ℕ) → (after : List ℕ) × (r : Done) × Reports kind today c before after r
+  pub lists-answers : (today : ℕ) (c : List ℕ) (before : Five) → Bytes c → (after : Five) × (r : Listed) × Lists today c before after r
+  pub points-answers : (today : ℕ) (c : List ℕ) (before : List Point) → Bytes c → (after : List Point) × (r : Listed) × Points today c before after r
   pub decode-answers : (s : List ℕ) → Bytes s → (r : Decoded) × Decodes s r × Numbered (r .number)
   pub encode-answers : (n : Numbers) (before : List ℕ) → (after : List ℕ) × (number : ℕ) × Encodes n before after number
   -- and it leaves a lent room clean: a check refuses by its verdict, and by the number beside it
@@ -78,6 +97,11 @@ pub record Demand1 : Type 0 where
   pub report-clean : (kind today : ℕ) (c before after : List ℕ) (r : Done) → Reports kind today c before after r → Clean before after (r .number) (r .length)
   pub encode-clean : (n : Numbers) (before after : List ℕ) (number : ℕ) → Encodes n before after number
       → ((number ≡ 0) × Clean before after number 25) ⊎ ((number ≡ 0 → ⊥) × Clean before after number 0)
+  -- 2026-10: "Entries past the last are all zero; a refusal leaves the whole list zero." "a refusal gives both counts as 0"
+  pub lists-clean : (today : ℕ) (c : List ℕ) (before after : Five) (r : Listed) → Lists today c before after r
+      → CleanEach before after (r .verdict .number) (r .first + r .second) × ((r .verdict .number ≡ 0 → ⊥) → (r .first ≡ 0) × (r .second ≡ 0))
+  pub points-clean : (today : ℕ) (c : List ℕ) (before after : List Point) (r : Listed) → Points today c before after r
+      → CleanOf nothing before after (r .verdict .number) (r .first + r .second) × ((r .verdict .number ≡ 0 → ⊥) → (r .first ≡ 0) × (r .second ≡ 0))
   -- "any string but 25 conforming bytes is 17, with all nine numbers 0"
   pub decode-clean : (s : List ℕ) (r : Decoded) → Decodes s r → (r .number ≡ 0 → ⊥) → (r .number ≡ numberOf BadFascn) × (r .numbers ≡ noNumbers)
 
@@ -281,6 +305,47 @@ pub record NoLongReport : Type 0 where
   pub in-order : (kind today : ℕ) (c before after : List ℕ) (r : Done) → Reports kind today c before after r → InTurn kind today c (length before) (r .number)
   pub withdrawn : (Numbered 8 → ⊥) × (Numbered 9 → ⊥)
 
+-- ---- 2026-10. "From a conforming FINGERS container fill the caller's list of points (type, x, y, angle, quality), first view then second, and give both
+-- counts. .. Each point, put back, gives its six bytes. A plain form that fills five number lists comes first, and the list of points is proved equal to it.
+-- This list never goes into a desk report, and demand 3 is unchanged. Refusals: 3 if the list is shorter than the sum of the counts, after the check; a refusal
+-- gives both counts as 0." (Of entries past the last and of refusals `lists-clean` and `points-clean` speak.)
+
+-- how long each of five lists is
+abbrev pub sizes : Five → List ℕ
+sizes l = length (l .types) ∷ length (l .xs) ∷ length (l .ys) ∷ length (l .angles) ∷ length (l .qualities) ∷ []
+
+pub record AsAList : Type 0 where
+  -- a FINGERS container that conforms has two views with their points, each a record of five numbers in its range, and these are their bytes (`HasPoints`);
+  -- it has no others, and at most 256
+  pub has-points : (today : ℕ) (vs : Values) (c : List ℕ) → Bytes c → Conforms 6 today vs c → (first : List Point) × (second : List Point) × HasPoints today c first second
+  pub only-points : (today : ℕ) (c : List ℕ) → Bytes c → (first second one two : List Point) → HasPoints today c first second → HasPoints today c one two
+      → (first ≡ one) × (second ≡ two)
+  pub most-points : (today : ℕ) (c : List ℕ) (first second : List Point) → HasPoints today c first second → length (first ++ second) ≤ 256
+  -- where there is room for them, they are listed, the first view's and then the second's, and both counts are given
+  pub lists-filled : (today : ℕ) (c : List ℕ) (before after : Five) (r : Listed) → Bytes c → Lists today c before after r
+      → (first second : List Point) → HasPoints today c first second → HoldsEach before (length (first ++ second))
+      → (r ≡ counted first second) × (after ≡ listsOf (first ++ second) before)
+  pub points-filled : (today : ℕ) (c : List ℕ) (before after : List Point) (r : Listed) → Bytes c → Points today c before after r
+      → (first second : List Point) → HasPoints today c first second → length (first ++ second) ≤ length before
+      → (r ≡ counted first second) × (after ≡ entries (first ++ second) (length before))
+  -- what the check refuses, as kind 6, is refused with its verdict; and "3 .., after the check"
+  pub lists-refused : (today : ℕ) (c : List ℕ) (v : Verdict) → Bytes c → Judges 6 today c v → (v .number ≡ 0 → ⊥) → (before after : Five) (r : Listed)
+      → Lists today c before after r → r .verdict ≡ v
+  pub points-refused : (today : ℕ) (c : List ℕ) (v : Verdict) → Bytes c → Judges 6 today c v → (v .number ≡ 0 → ⊥) → (before after : List Point) (r : Listed)
+      → Points today c before after r → r .verdict ≡ v
+  pub lists-short : (today : ℕ) (c : List ℕ) (before after : Five) (r : Listed) → Bytes c → Lists today c before after r
+      → (first second : List Point) → HasPoints today c first second → (HoldsEach before (length (first ++ second)) → ⊥) → r ≡ refusedBy (outright SmallRoom)
+  pub points-short : (today : ℕ) (c : List ℕ) (before after : List Point) (r : Listed) → Bytes c → Points today c before after r
+      → (first second : List Point) → HasPoints today c first second → length before < length (first ++ second) → r ≡ refusedBy (outright SmallRoom)
+  -- "the list of points is proved equal to it": both answer the same, and the five lists have the five numbers of each entry
+  pub equal : (today : ℕ) (c : List ℕ) (before after : Five) (r : Listed) (list left : List Point) (q : Listed) → Bytes c
+      → sizes before ≡ length list ∷ length list ∷ length list ∷ length list ∷ length list ∷ [] → Lists today c before after r → Points today c list left q
+      → (r ≡ q) × (after ≡ five (map (λ p. p .sort) left) (map (λ p. p .x) left) (map (λ p. p .y) left) (map (λ p. p .angle) left) (map (λ p. p .quality) left))
+  -- "Each point, put back, gives its six bytes": the first view's points stand one after the other in the container, and the second's six bytes behind them
+  pub put-back : (today : ℕ) (c : List ℕ) (before after : List Point) (r : Listed) → Bytes c → Points today c before after r → r .verdict .number ≡ 0
+      → (at : ℕ) × ((i : ℕ) → i < r .first → part c (at + 6 * i) 6 ≡ pointBytes (getD after i nothing))
+      × ((i : ℕ) → i < r .second → part c (at + 6 * r .first + 6 + 6 * i) 6 ≡ pointBytes (getD after (r .first + i) nothing))
+
 -- ---- "For each public call the contract determines number, place, returned part and each byte of lent room, on every input and every refusal. Any two
 -- results that satisfy it are shown equal." The tag is a part of the answer as the place is. Rooms of one length may have held anything before. (A returned part has a block, an offset and bytes; the ghost
 -- name of its reference is no value, and is left open.)
@@ -295,6 +360,10 @@ pub record Settled : Type 0 where
       → (n₁ ≡ n₂) × (p₁ ≡ p₂) × (t₁ ≡ t₂) × (part₁ ≡ part₂) × (bytes₁ ≡ bytes₂)
   pub one-report : (kind today : ℕ) (c before₁ before₂ after₁ after₂ : List ℕ) (r₁ r₂ : Done) → length before₁ ≡ length before₂
       → Reports kind today c before₁ after₁ r₁ → Reports kind today c before₂ after₂ r₂ → (r₁ ≡ r₂) × (after₁ ≡ after₂)
+  pub one-lists : (today : ℕ) (c : List ℕ) (before₁ before₂ after₁ after₂ : Five) (r₁ r₂ : Listed) → Bytes c → sizes before₁ ≡ sizes before₂
+      → Lists today c before₁ after₁ r₁ → Lists today c before₂ after₂ r₂ → (r₁ ≡ r₂) × (after₁ ≡ after₂)
+  pub one-points : (today : ℕ) (c : List ℕ) (before₁ before₂ after₁ after₂ : List Point) (r₁ r₂ : Listed) → Bytes c → length before₁ ≡ length before₂
+      → Points today c before₁ after₁ r₁ → Points today c before₂ after₂ r₂ → (r₁ ≡ r₂) × (after₁ ≡ after₂)
   pub one-decode : (s : List ℕ) (r₁ r₂ : Decoded) → Decodes s r₁ → Decodes s r₂ → r₁ ≡ r₂
   pub one-encode : (n : Numbers) (before₁ before₂ after₁ after₂ : List ℕ) (k₁ k₂ : ℕ) → length before₁ ≡ length before₂
       → Encodes n before₁ after₁ k₁ → Encodes n before₂ after₂ k₂ → (k₁ ≡ k₂) × (after₁ ≡ after₂)
@@ -311,6 +380,9 @@ pub record SettledForC : Type 0 where
       → CViews kind today c element n₁ p₁ t₁ o₁ l₁ → CViews kind today c element n₂ p₂ t₂ o₂ l₂ → (n₁ ≡ n₂) × (p₁ ≡ p₂) × (t₁ ≡ t₂) × (o₁ ≡ o₂) × (l₁ ≡ l₂)
   pub one-report : (kind today : ℕ) (c before₁ before₂ after₁ after₂ : List ℕ) (n₁ n₂ l₁ l₂ : ℕ) → length before₁ ≡ length before₂
       → CReports kind today c before₁ after₁ n₁ l₁ → CReports kind today c before₂ after₂ n₂ l₂ → (n₁ ≡ n₂) × (l₁ ≡ l₂) × (after₁ ≡ after₂)
+  pub one-lists : (today : ℕ) (c : List ℕ) (before₁ before₂ after₁ after₂ : Five) (n₁ n₂ p₁ p₂ t₁ t₂ f₁ f₂ s₁ s₂ : ℕ) → Bytes c → sizes before₁ ≡ sizes before₂
+      → CLists today c before₁ after₁ n₁ p₁ t₁ f₁ s₁ → CLists today c before₂ after₂ n₂ p₂ t₂ f₂ s₂
+      → (n₁ ≡ n₂) × (p₁ ≡ p₂) × (t₁ ≡ t₂) × (f₁ ≡ f₂) × (s₁ ≡ s₂) × (after₁ ≡ after₂)
   pub one-decode : (s : List ℕ) (n₁ n₂ : ℕ) (nine₁ nine₂ : List ℕ) → CDecodes s n₁ nine₁ → CDecodes s n₂ nine₂ → (n₁ ≡ n₂) × (nine₁ ≡ nine₂)
   pub one-encode : (nine before₁ before₂ after₁ after₂ : List ℕ) (n₁ n₂ : ℕ) → length before₁ ≡ length before₂
       → CEncodes nine before₁ after₁ n₁ → CEncodes nine before₂ after₂ n₂ → (n₁ ≡ n₂) × (after₁ ≡ after₂)

@@ -61,7 +61,7 @@ pub fn lists(
 ) -> Listed
     ensures { λ r. ⌜ Lists today (now (container .entry)) (five (now (types .entry)) (now (xs .entry)) (now (ys .entry)) (now (angles .entry)) (now (qualities .entry))) (five (now (types .exit)) (now (xs .exit)) (now (ys .exit)) (now (angles .exit)) (now (qualities .exit))) r ⌝ }
 {
-    points::lists(today, container, types, xs, ys, angles, qualities)
+    columns::lists(today, container, types, xs, ys, angles, qualities)
 }
 
 // The same as one list of points. The language leaves the proof of a function with such a list to hand, so the loop is here and

@@ -51,7 +51,8 @@ use denote.Triple.Spec.{Meets, tripleOf}
 use denote.Triple.Table.{entered, cited}
 use denote.Triple.Walked.{says, Stays, stay-none, stay-none-slice, stay-slice, walkOf, goes-none, goes-none-slice, goes-slice, Walks, ends-at, walked, walk-meets}
 use denote.Exit.{yes}
-use Rattle.points.specs.Places.{entryOf, along, spliced, answerOf, Plans}
+use Rattle.points.specs.Places.{entryOf, along, answerOf, Plans}
+use Rattle.columns.specs.Columns.{spliced}
 use Rattle.points.specs.declared.Point.{Point}
 use Rattle.points.specs.declared.Plan.{Plan}
 use Rattle.points.specs.declared.Listed.{Listed}
@@ -73,8 +74,8 @@ use Rattle.points.proofs.answer as answer
 use Rattle.points.proofs.answer.Symbol as answer-def
 use Rattle.points.proofs.answer.Symbol.{name as #answer}
 use Rattle.points.proofs.answer.Met as answer-thm
-use Rattle.points.proofs.Filling.{spliced-length, spliced-next, spliced-none, spliced-all}
-use Rattle.points.proofs.Filled.{filled-points}
+use Rattle.points.proofs.Entries.{filled-points}
+use Rattle.columns.proofs.Filling.{spliced-length, spliced-next, spliced-all}
 use Rattle.prosianek.proofs.points.Key.{name as #points}
 use Rattle.prosianek.proofs.points as points
 use Rattle.prosianek.proofs.points.Statement as stated

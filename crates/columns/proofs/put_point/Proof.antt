@@ -1,7 +1,7 @@
--- `points::put_point` meets its contract. Assumes nothing.
+-- `columns::put_point` meets its contract. Assumes nothing.
 use borrow.Author.Needs.{needs}
-use Rattle.points.proofs.put_point.Statement.{statement}
-use Rattle.points.proofs.put_point.Tie as tie
+use Rattle.columns.proofs.put_point.Statement.{statement}
+use Rattle.columns.proofs.put_point.Tie as tie
 
 returns : tie.Need-returns
 returns c = let e = c .point-at .ensures in (rw e, (rw e, (rw e, (rw e, rw e))))

@@ -1,4 +1,4 @@
--- `points::clear` meets its contract. The loop's invariant: from the first entries on there are zeros, and behind them the list is as it was. Assumes nothing.
+-- `columns::clear` meets its contract. The loop's invariant: from the first entries on there are zeros, and behind them the list is as it was. Assumes nothing.
 use mathlib.Core.Path.{_≡_, refl, _∙_}
 use mathlib.Core.List.{_++_}
 use Prim.Native.Nat.{_≤_, _<_, _-_}
@@ -6,9 +6,9 @@ use native.Mathlib.Omega.{arith}
 use borrow.Author.Needs.{needs}
 use lib.ListN.{length, take, drop, length-set}
 use Rattle.laws.specs.Room.{zeros}
-use Rattle.points.proofs.Filling.{zero-first, zero-next, zero-last}
-use Rattle.points.proofs.clear.Statement.{statement}
-use Rattle.points.proofs.clear.Tie as tie
+use Rattle.columns.proofs.Filling.{zero-first, zero-next, zero-last}
+use Rattle.columns.proofs.clear.Statement.{statement}
+use Rattle.columns.proofs.clear.Tie as tie
 
 abbrev Inv-loop : tie.InvT-loop
 Inv-loop out₀ from i₀ out i = (from ≤ i) × (i - from ≤ length out₀ - from) × (length out ≡ length out₀) × (out ≡ take from out₀ ++ zeros (i - from) ++ drop i out₀)

@@ -1,15 +1,15 @@
--- `points::put_view` meets its contract. The loop's invariant: i entries of each list are put, an even number. Assumes nothing.
+-- `columns::put_view` meets its contract. The loop's invariant: i entries of each list are put, an even number. Assumes nothing.
 use Prim.Native.Nat.{ℕ, _+_, _*_, _-_, _%_, _^_, _<_, _≤_}
 use mathlib.Core.Path.{_≡_, refl}
 use mathlib.Core.List.{List}
 use native.Mathlib.Omega.{arith}
 use borrow.Author.Needs.{needs}
 use lib.ListN.{length, set}
 use Rattle.points.specs.Calls.{Five, five, HoldsEach}
 use Rattle.points.specs.Places.{pointAt}
-use Rattle.points.proofs.Filling.{Put, put-first, put-next}
-use Rattle.points.proofs.put_view.Statement.{statement}
-use Rattle.points.proofs.put_view.Tie as tie
+use Rattle.columns.proofs.Filling.{Put, put-first, put-next}
+use Rattle.columns.proofs.put_view.Statement.{statement}
+use Rattle.columns.proofs.put_view.Tie as tie
 
 -- i entries of each list are put
 abbrev Puts : List ℕ → ℕ → ℕ → Five → ℕ → List ℕ → List ℕ → List ℕ → List ℕ → List ℕ → Type 0

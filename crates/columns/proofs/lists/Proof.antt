@@ -1,11 +1,12 @@
--- `points::lists` meets its contract: the room is that of the shortest list, and what is put are the entries of the plan. Assumes nothing.
+-- `columns::lists` meets its contract: the room is that of the shortest list, and what is put are the entries of the plan. Assumes nothing.
 use mathlib.Core.Path.{ap, _∙_}
 use borrow.Author.Needs.{needs}
 use Rattle.points.specs.Calls.{Five, five}
-use Rattle.points.specs.Places.{fewer, shortest, Plans}
-use Rattle.points.proofs.Filled.{shortest-exact, filled-lists}
-use Rattle.points.proofs.lists.Statement.{statement}
-use Rattle.points.proofs.lists.Tie as tie
+use Rattle.points.specs.Places.{Plans}
+use Rattle.columns.specs.Columns.{fewer, shortest}
+use Rattle.columns.proofs.Shortest.{shortest-exact, filled-lists}
+use Rattle.columns.proofs.lists.Statement.{statement}
+use Rattle.columns.proofs.lists.Tie as tie
 
 -- the lists as they were lent
 abbrev lent : tie.Start → Five

@@ -1,4 +1,4 @@
--- What a plan lists, in five lists, of which the shortest counts, and in a list of points. Assumes nothing.
+-- What a plan lists in five lists, of which the shortest counts. Assumes nothing.
 use Prim.Native.Nat.{ℕ, _+_, _≤_}
 use mathlib.Core.Path.{_≡_, sym, _∙_}
 use mathlib.Core.Bool.{cond}
@@ -9,13 +9,13 @@ use lib.ListN.{length}
 use lib.Dec.{ltb}
 use borrow.Author.Tests.{ltb-true, ltb-false}
 use Rattle.laws.proofs.Cases.{test}
 use Rattle.points.specs.Calls.{Five, listsOf, HoldsEach, Says, breaks, short, fits, FillsLists, FillsPoints}
-use Rattle.points.specs.Places.{entryOf, along, fewer, shortest, answerOf, Plans}
+use Rattle.points.specs.Places.{entryOf, along, answerOf, Plans}
+use Rattle.points.proofs.Once.{same-room}
+use Rattle.columns.specs.Columns.{fewer, shortest}
 use Rattle.points.specs.declared.Listed.{Listed}
 use Rattle.points.specs.declared.Point.{Point}
 use Rattle.points.specs.declared.Plan.{Plan}
-use Rattle.points.proofs.Filling.{entries-along}
-use Rattle.points.proofs.Entries.{entry-past}
 
 fewer-exact : (a b n : ℕ) → (n ≤ fewer a b) ↔ ((n ≤ a) × (n ≤ b))
 fewer-exact a b n =
@@ -38,21 +38,7 @@ shortest-exact l n =
       λ h. a .1 (h .0, b .1 (h .1, c .1 (h .2, d .1 (h .3, h .4)))),
     )
 
--- the same is said of rooms that hold the same
-pub same-room : {today : ℕ} {c : List ℕ} {P Q : ℕ → Type 0} {r : Listed} {ps : List Point} → ((n : ℕ) → P n ↔ Q n) → Says today c P r ps → Says today c Q r ps
-same-room e (breaks f n a l) = breaks f n a l
-same-room e (short first second h s a l) = short first second h (λ q. s (e _ .1 q)) a l
-same-room e (fits first second h s a l) = fits first second h (e _ .0 s) a l
-
 -- the lists of what a plan lists, where there is room for it in the shortest
 pub filled-lists : {today : ℕ} {c : List ℕ} {plan : Plan} {after : Five} (before : Five) → Plans today c (shortest before) plan
     → after ≡ listsOf (along (entryOf c plan) 0 (plan .first + plan .second)) before → FillsLists today c before after (answerOf plan)
 filled-lists before p e = record { listed = _; says = same-room (shortest-exact before) (p .says); left = e }
-
-pub filled-points : {today : ℕ} {c : List ℕ} {plan : Plan} {after : List Point} (before : List Point) → Plans today c (length before) plan
-    → after ≡ along (entryOf c plan) 0 (length before) → FillsPoints today c before after (answerOf plan)
-filled-points {c = c} {plan} before p e = record {
-  listed = along (entryOf c plan) 0 (plan .first + plan .second);
-  says = p .says;
-  left = e ∙ sym (entries-along (entryOf c plan) 0 (plan .first + plan .second) (length before) (λ i h. entry-past c plan i (omega arith)));
-}

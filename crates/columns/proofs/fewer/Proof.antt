@@ -1,7 +1,7 @@
--- `points::fewer` meets its contract. Assumes nothing.
+-- `columns::fewer` meets its contract. Assumes nothing.
 use borrow.Author.Tests.{lt-ltb, le-ltb}
-use Rattle.points.proofs.fewer.Statement.{statement}
-use Rattle.points.proofs.fewer.Tie as tie
+use Rattle.columns.proofs.fewer.Statement.{statement}
+use Rattle.columns.proofs.fewer.Tie as tie
 
 returns : tie.Need-returns
 returns c = rw (lt-ltb _ _ (c .if1 .taken))

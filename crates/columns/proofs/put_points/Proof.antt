@@ -1,16 +1,17 @@
--- `points::put_points` meets its contract: the points of both views are put, and what is behind them is cleared. Assumes nothing.
+-- `columns::put_points` meets its contract: the points of both views are put, and what is behind them is cleared. Assumes nothing.
 use Prim.Native.Nat.{_+_}
 use mathlib.Core.Path.{_≡_, refl, ap, _∙_}
 use mathlib.Core.List.{map}
 use native.Mathlib.Omega.{arith}
 use borrow.Author.Needs.{needs}
 use lib.ListN.{length}
 use Rattle.points.specs.Calls.{entries, five}
 use Rattle.points.specs.Places.{entryOf, along}
-use Rattle.points.proofs.Filling.{spliced-length, entries-long}
-use Rattle.points.proofs.Entries.{within-first, within-second, both-views}
-use Rattle.points.proofs.put_points.Statement.{statement}
-use Rattle.points.proofs.put_points.Tie as tie
+use Rattle.columns.proofs.Filling.{spliced-length, entries-long}
+use Rattle.points.proofs.Entries.{within-first, within-second}
+use Rattle.columns.proofs.Views.{both-views}
+use Rattle.columns.proofs.put_points.Statement.{statement}
+use Rattle.columns.proofs.put_points.Tie as tie
 
 abbrev start : tie.After-put-view → tie.Start
 start v = v .before .before .before .before .before .before .before .before .before .before .before .before .before .before

@@ -1,7 +1,7 @@
--- `points::clear_each` meets its contract. Assumes nothing.
+-- `columns::clear_each` meets its contract. Assumes nothing.
 use borrow.Author.Needs.{needs}
-use Rattle.points.proofs.clear_each.Statement.{statement}
-use Rattle.points.proofs.clear_each.Tie as tie
+use Rattle.columns.proofs.clear_each.Statement.{statement}
+use Rattle.columns.proofs.clear_each.Tie as tie
 
 returns : tie.Need-returns
 returns c =
