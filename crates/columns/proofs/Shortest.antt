@@ -1,6 +1,6 @@
 -- What a plan lists in five lists, of which the shortest counts. Assumes nothing.
 use Prim.Native.Nat.{ℕ, _+_, _≤_}
-use mathlib.Core.Path.{_≡_, sym, _∙_}
+use mathlib.Core.Path.{_≡_}
 use mathlib.Core.Bool.{cond}
 use mathlib.Core.Logic.{_↔_}
 use mathlib.Core.List.{List}
@@ -9,12 +9,10 @@ use lib.ListN.{length}
 use lib.Dec.{ltb}
 use borrow.Author.Tests.{ltb-true, ltb-false}
 use Rattle.laws.proofs.Cases.{test}
-use Rattle.points.specs.Calls.{Five, listsOf, HoldsEach, Says, breaks, short, fits, FillsLists, FillsPoints}
+use Rattle.points.specs.Calls.{Five, listsOf, HoldsEach, FillsLists}
 use Rattle.points.specs.Places.{entryOf, along, answerOf, Plans}
 use Rattle.points.proofs.Once.{same-room}
 use Rattle.columns.specs.Columns.{fewer, shortest}
-use Rattle.points.specs.declared.Listed.{Listed}
-use Rattle.points.specs.declared.Point.{Point}
 use Rattle.points.specs.declared.Plan.{Plan}
 
 fewer-exact : (a b n : ℕ) → (n ≤ fewer a b) ↔ ((n ≤ a) × (n ≤ b))

@@ -1,7 +1,7 @@
--- A FINGERS container that conforms has points, and only these; so each answer is the only one, and there is always one. Assumes nothing.
+-- A FINGERS container that conforms has points, and only these; so each answer is the only one. Assumes nothing.
 use Prim.Native.Nat.{ℕ}
-use mathlib.Core.Path.{_≡_, refl, sym, ap, _∙_}
-use mathlib.Core.Logic.{_↔_, _⊎_, inl, inr}
+use mathlib.Core.Path.{_≡_, sym, ap, _∙_}
+use mathlib.Core.Logic.{_↔_}
 use mathlib.Core.Option.{none, some}
 use mathlib.Core.List.{List, [], _∷_}
 use lib.ListN.{getD}
@@ -9,12 +9,12 @@ use Rattle.laws.specs.Bytes.{Bytes}
 use Rattle.laws.proofs.Cases.{no-some}
 use Rattle.verdicts.specs.declared.Finding.{Finding}
 use Rattle.container.specs.Container.{Values, Conforms}
-use Rattle.container.specs.Reading.{Parsed, values, fault, parsed}
+use Rattle.container.specs.Reading.{Parsed, values, fault}
 use Rattle.container.specs.InOrder.{Named}
 use Rattle.container.proofs.Exact.{no-values}
 use Rattle.container.proofs.Forms.{AllBytes, conforming-bytes}
 use Rattle.container.proofs.Named.{named-back}
-use Rattle.container.proofs.Promise.{exact, unique, named}
+use Rattle.container.proofs.Promise.{exact, unique}
 use Rattle.points.specs.Points.{dataOf, HasPoints}
 use Rattle.points.specs.Calls.{refusedBy, Says, breaks, short, fits}
 use Rattle.points.specs.declared.Listed.{Listed}
@@ -23,17 +23,28 @@ use Rattle.points.proofs.Record.{firstPoints, secondPoints}
 use Rattle.points.proofs.Back.{shows-back}
 use Rattle.points.proofs.Holding.{first-value, value-shows}
 
+-- the value of the first row
+abbrev pub valueOf : Values → List ℕ
+valueOf [] = []
+valueOf (none ∷ vs) = []
+valueOf (some v ∷ vs) = v
+
+value-is : (vs : Values) (v : List ℕ) → getD vs 0 none ≡ some v → valueOf vs ≡ v
+value-is [] v e = absurd (no-some e)
+value-is (none ∷ vs) v e = absurd (no-some e)
+value-is (some w ∷ vs) v e = cc
+
 value-bytes : (vs : Values) (v : List ℕ) → AllBytes vs → getD vs 0 none ≡ some v → Bytes v
 value-bytes [] v b e = absurd (no-some e)
 value-bytes (none ∷ vs) v b e = absurd (no-some e)
 value-bytes (some w ∷ vs) v b e = let q : w ≡ v = cc in rw q at (b .0)
 
 module _ {today : ℕ} {c : List ℕ} (b : Bytes c) where
-  pub has-points : (vs : Values) → Conforms 6 today vs c → (first : List Point) × (second : List Point) × HasPoints today c first second
+  pub has-points : (vs : Values) → Conforms 6 today vs c → HasPoints today c (firstPoints (dataOf (valueOf vs))) (secondPoints (dataOf (valueOf vs)))
   has-points vs k =
       let (v, s, g) = first-value today vs (k .allowed) in
       let y = value-bytes vs v (conforming-bytes 6 today vs c k b) s in
-      (firstPoints (dataOf v), secondPoints (dataOf v), record { values = vs; conforms = k; biometric = v; is-value = s; shows = value-shows v y g .0 })
+      rw (value-is vs v s) (record { values = vs; conforms = k; biometric = v; is-value = s; shows = value-shows v y g .0 })
 
   pub only-points : {f s g t : List Point} → HasPoints today c f s → HasPoints today c g t → (f ≡ g) × (s ≡ t)
   only-points h k =
@@ -46,15 +57,7 @@ module _ {today : ℕ} {c : List ℕ} (b : Bytes c) where
       one-value : {v w : List ℕ} → some v ≡ some w → v ≡ w
       one-value e = cc
 
-  -- it breaks a first rule, or has points
-  pub told : ((f : Finding) × Named 6 today c f) ⊎ ((first : List Point) × (second : List Point) × HasPoints today c first second)
-  told = go (parsed 6 today c) refl
-    where
-      go : (p : Parsed (List ℕ)) → parsed 6 today c ≡ p → ((f : Finding) × Named 6 today c f) ⊎ ((first : List Point) × (second : List Point) × HasPoints today c first second)
-      go (fault f) e = inl (f, named 6 today c b f e)
-      go (values vs) e = inr (has-points vs (exact 6 today c b vs .0 e))
-
-  -- never both
+  -- no rule is broken where there are points
   pub never : {f : Finding} {g t : List Point} → Named 6 today c f → HasPoints today c g t → ⊥
   never {f} n h = no-values (sym (named-back 6 today f c b n) ∙ exact 6 today c b (h .values) .1 (h .conforms))
 

@@ -1,16 +1,16 @@
 -- The rows of the table hold: each is tested by computation, and what the tests say is what the rules say. Assumes nothing.
 use Prim.Native.Nat.{ℕ}
 use mathlib.Core.Logic.{_↔_}
-use mathlib.Core.Path.{_≡_, refl, sym, ap, _∙_}
+use mathlib.Core.Path.{_≡_, refl, sym, ap, ap₂, _∙_}
 use mathlib.Core.Bool.{Bool, true, false, not, _&&_, true≢false}
 use mathlib.Core.Option.{Option, none, some}
-use mathlib.Core.List.{List, [], _∷_}
+use mathlib.Core.List.{List, [], _∷_, _++_}
 use native.Mathlib.Omega.{arith}
 use lib.Count.{ones}
-use lib.Dec.{ltb, eqb}
+use lib.Dec.{leb, ltb, eqb}
 use lib.ListN.{length}
 use lib.Seq.{take-all}
-use borrow.Author.Tests.{eqb-true, eq-eqb, ltb-true}
+use borrow.Author.Tests.{eqb-true, eq-eqb, ltb-true, leb-true, le-leb}
 use Rattle.laws.specs.Bytes.{Bytes}
 use Rattle.laws.specs.Digits.{digits}
 use Rattle.laws.specs.Tests.{each, same}
@@ -58,8 +58,14 @@ use Rattle.opens.specs.Open.{openPart}
 use Rattle.report.specs.Report.{reportText}
 use Rattle.report.specs.Calls.{reportOutput}
 use Rattle.report.proofs.Answers.{names-nothing}
+use Rattle.points.specs.Calls.{Five, HoldsEach}
+use Rattle.points.specs.declared.Point.{Point}
+use Rattle.points.proofs.Record.{pointsOf}
+use Rattle.points.proofs.Once.{says-once}
 use Rattle.prosianek.proofs.Checking.{answer, output, only}
-use Rattle.promises.specs.Examples.{Example, fascn-of, no-fascn, spells, no-length, date, no-date, kept, late, printed-date, no-printed-date, conforms, breaks, checks, writes, reports, today, Holds, All, examples}
+use Rattle.promises.specs.Demands.{sizes}
+use Rattle.promises.proofs.Listing.{Told, computed, computed-says}
+use Rattle.promises.specs.Examples.{Example, fascn-of, no-fascn, spells, no-length, date, no-date, kept, late, printed-date, no-printed-date, conforms, breaks, checks, writes, reports, fills-lists, fills-points, today, Holds, All, examples}
 
 -- ---- each row as a test
 
@@ -86,6 +92,25 @@ sameOutput : Output → ℕ → List ℕ → Bool
 sameOutput (refusal f) number bytes = eqb (numberOf (f .fault)) number && same [] bytes
 sameOutput (text t) number bytes = eqb 0 number && same t bytes
 
+-- the same points
+samePoint : Point → Point → Bool
+samePoint p q = eqb (p .sort) (q .sort) && eqb (p .x) (q .x) && eqb (p .y) (q .y) && eqb (p .angle) (q .angle) && eqb (p .quality) (q .quality)
+
+samePoints : List Point → List Point → Bool
+samePoints [] [] = true
+samePoints [] (q ∷ qs) = false
+samePoints (p ∷ ps) [] = false
+samePoints (p ∷ ps) (q ∷ qs) = samePoint p q && samePoints ps qs
+
+sameTold : Told → ℕ → ℕ → Tag → List Point → List Point → Bool
+sameTold t number place tag first second =
+    eqb (t .answer .verdict .number) number && eqb (t .answer .verdict .place) place && sameTag (t .answer .verdict .tag) tag
+    && eqb (t .answer .first) (length first) && eqb (t .answer .second) (length second) && samePoints (t .first) first && samePoints (t .second) second
+
+-- lists of these lengths have room for so many points
+holdsEach : List ℕ → ℕ → Bool
+holdsEach rooms n = each (λ room. leb n room) rooms
+
 tested : Example → Bool
 tested (fascn-of s n) = inRange n && same s (encoded n)
 tested (no-fascn s) = areBytes s && not (isFascn s)
@@ -111,6 +136,8 @@ tested (writes kind s room number place tag c) =
     let d = doneOf o in
     areBytes s && eqb (d .number) number && eqb (d .place) place && sameTag (d .tag) tag && eqb (d .length) (length c) && same (bytesOf o) c
 tested (reports kind c room number bytes) = sameOutput (reportOutput kind today c room) number bytes
+tested (fills-lists c rooms number place tag first second) = areBytes c && sameTold (computed (parsed 6 today c) (holdsEach rooms)) number place tag first second
+tested (fills-points c room number place tag first second) = areBytes c && sameTold (computed (parsed 6 today c) (λ n. leb n room)) number place tag first second
 
 allTested : List Example → Bool
 allTested [] = true
@@ -214,6 +241,81 @@ reports-so kind c room number bytes t before after r q h =
     let w : Leaves o before after r = rw q at (h .leaves) in
     (w .answer ∙ (λ i. record { number = n i; place = p i; tag = g i; length = l i }), w .room ∙ rw (q, b))
 
+same-point : (p q : Point) → samePoint p q ≡ true → p ≡ q
+unfolding samePoint
+same-point p q t =
+    let d = all-true (eqb (p .sort) (q .sort) ∷ eqb (p .x) (q .x) ∷ eqb (p .y) (q .y) ∷ eqb (p .angle) (q .angle) ∷ eqb (p .quality) (q .quality) ∷ []) t in
+    let s = eqb-true _ _ (d 0) in
+    let x = eqb-true _ _ (d 1) in
+    let y = eqb-true _ _ (d 2) in
+    let a = eqb-true _ _ (d 3) in
+    let w = eqb-true _ _ (d 4) in
+    λ i. record { sort = s i; x = x i; y = y i; angle = a i; quality = w i }
+
+same-points : (ps qs : List Point) → samePoints ps qs ≡ true → ps ≡ qs
+unfolding samePoints
+same-points [] [] t = refl
+same-points [] (q ∷ qs) t = absurd (true≢false (sym t))
+same-points (p ∷ ps) [] t = absurd (true≢false (sym t))
+same-points (p ∷ ps) (q ∷ qs) t =
+    let c = and-true (samePoint p q) (samePoints ps qs) t in
+    ap₂ (λ (x : Point) (l : List Point). x ∷ l) (same-point p q (c .0)) (same-points ps qs (c .1))
+
+-- what is computed is as expected
+told-so : (t : Told) (number place : ℕ) (tag : Tag) (first second : List Point) → sameTold t number place tag first second ≡ true
+    → (t .answer ≡ record { verdict = record { number = number; place = place; tag = tag }; first = length first; second = length second }) × (t .first ++ t .second ≡ first ++ second)
+unfolding sameTold
+told-so t number place tag first second e =
+    let d =
+    all-true
+    (eqb (t .answer .verdict .number) number ∷ eqb (t .answer .verdict .place) place ∷ sameTag (t .answer .verdict .tag) tag ∷ eqb (t .answer .first) (length first)
+    ∷ eqb (t .answer .second) (length second) ∷ samePoints (t .first) first ∷ samePoints (t .second) second ∷ [])
+    e in
+    let n = eqb-true _ _ (d 0) in
+    let p = eqb-true _ _ (d 1) in
+    let g = same-tag _ _ (d 2) in
+    let f = eqb-true _ _ (d 3) in
+    let s = eqb-true _ _ (d 4) in (
+      λ i. record { verdict = record { number = n i; place = p i; tag = g i }; first = f i; second = s i },
+      ap₂ (λ (x y : List Point). x ++ y) (same-points (t .first) first (d 5)) (same-points (t .second) second (d 6)),
+    )
+
+holds-each : (before : Five) (rooms : List ℕ) → sizes before ≡ rooms → (n : ℕ) → (holdsEach rooms n ≡ true) ↔ HoldsEach before n
+unfolding holdsEach
+holds-each before rooms q n =
+    rw (← q) (
+      λ e.
+          let a = and-true (leb n (length (before .types))) _ e in
+          let b = and-true (leb n (length (before .xs))) _ (a .1) in
+          let c = and-true (leb n (length (before .ys))) _ (b .1) in
+          let d = and-true (leb n (length (before .angles))) _ (c .1) in
+          let f = and-true (leb n (length (before .qualities))) _ (d .1) in
+          (leb-true _ _ (a .0), leb-true _ _ (b .0), leb-true _ _ (c .0), leb-true _ _ (d .0), leb-true _ _ (f .0)),
+      λ h. rw (le-leb _ _ (h .0), le-leb _ _ (h .1), le-leb _ _ (h .2), le-leb _ _ (h .3), le-leb _ _ (h .4)),
+    )
+
+points-so : (c : List ℕ) (room number place : ℕ) (tag : Tag) (first second : List Point) → tested (fills-points c room number place tag first second) ≡ true
+    → Holds (fills-points c room number place tag first second)
+unfolding tested
+points-so c room number place tag first second t before after r q h =
+    let k = computed (parsed 6 today c) (λ n. leb n room) in
+    let d = and-true (areBytes c) (sameTold k number place tag first second) t in
+    let b = are-bytes c (d .0) in
+    let (a, ps) = told-so k number place tag first second (d .1) in
+    let (e, l) = says-once b (h .fills .says) (computed-says b (λ n. leb n room) (λ n. (λ z. rw q (leb-true n room z), λ z. le-leb n room (rw q at z)))) in
+    (e ∙ a, h .fills .left ∙ rw (l, ps, q))
+
+lists-so : (c rooms : List ℕ) (number place : ℕ) (tag : Tag) (first second : List Point) → tested (fills-lists c rooms number place tag first second) ≡ true
+    → Holds (fills-lists c rooms number place tag first second)
+unfolding tested
+lists-so c rooms number place tag first second t before after r q h =
+    let k = computed (parsed 6 today c) (holdsEach rooms) in
+    let d = and-true (areBytes c) (sameTold k number place tag first second) t in
+    let b = are-bytes c (d .0) in
+    let (a, ps) = told-so k number place tag first second (d .1) in
+    let (e, l) = says-once b (h .fills .says) (computed-says b (holdsEach rooms) (holds-each before rooms q)) in
+    (e ∙ a, h .fills .left ∙ rw (l, ps))
+
 so : (e : Example) → tested e ≡ true → Holds e
 unfolding tested isNone
 so (fascn-of s n) t = let c = and-true (inRange n) (same s (encoded n)) t in record { in-range = range-exact n .0 (c .0); written = same-eq s (encoded n) (c .1) }
@@ -239,6 +341,8 @@ so (breaks kind c number place tag) t =
 so (checks kind c room number place tag three sheet) t = checks-so kind c room number place tag three sheet t
 so (writes kind s room number place tag c) t = writes-so kind s room number place tag c t
 so (reports kind c room number bytes) t = reports-so kind c room number bytes t
+so (fills-lists c rooms number place tag first second) t = lists-so c rooms number place tag first second t
+so (fills-points c room number place tag first second) t = points-so c room number place tag first second t
 
 all-so : (es : List Example) → allTested es ≡ true → All es
 unfolding allTested
@@ -246,7 +350,7 @@ all-so [] t = tt
 all-so (e ∷ es) t = let c = and-true (tested e) (allTested es) t in (so e (c .0), all-so es (c .1))
 
 all-tested : allTested examples ≡ true
-unfolding allTested tested areBytes isNone isLength sameTag sameOutput examples ones digits exclusive values checked characters encoded valuesOf framed decoded isFascn lengthBytes readLength daysIn exists isDate dateOf twoDigits monthNumber isPrintedDate isMoment isUuid isPolicy isText ended isCreator pointHolds pointsHold viewHead fills whole extent recordHead isMinutiae informed blockExtent faceHead isFacial dateHolds marksHold shapeHolds irisExtent irisHead isIris readDer headOf items walked certificate ruleOf element located parsed outcome sheetOf writeOutput fixed decimal hex2 hexTag cardPart elementLines elementCount openPart reportText reportOutput
+unfolding allTested tested areBytes isNone isLength sameTag sameOutput samePoint samePoints sameTold holdsEach pointsOf examples ones digits exclusive values checked characters encoded valuesOf framed decoded isFascn lengthBytes readLength daysIn exists isDate dateOf twoDigits monthNumber isPrintedDate isMoment isUuid isPolicy isText ended isCreator pointHolds pointsHold viewHead fills whole extent recordHead isMinutiae informed blockExtent faceHead isFacial dateHolds marksHold shapeHolds irisExtent irisHead isIris readDer headOf items walked certificate ruleOf element located parsed outcome sheetOf writeOutput fixed decimal hex2 hexTag cardPart elementLines elementCount openPart reportText reportOutput
 all-tested = refl
 
 pub examples-hold : All examples

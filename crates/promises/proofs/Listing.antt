@@ -2,23 +2,25 @@
 use Prim.Native.Nat.{ℕ, zero, suc, _+_, _*_, _-_, _<_, _≤_}
 use mathlib.Core.Logic.{_↔_, inl, inr}
 use mathlib.Core.Path.{_≡_, refl, sym, ap, _∙_}
-use mathlib.Core.Bool.{false}
+use mathlib.Core.Bool.{Bool, true, false, cond, true≢false}
 use mathlib.Core.List.{List, [], _∷_, _++_, map}
 use native.Mathlib.Omega.{arith}
-use native.Mathlib.Decide.{decLe}
 use lib.ListN.{length, take, drop, getD, replicate, length-append, length-map, length-take, length-drop}
+use lib.Dec.{leb}
+use borrow.Author.Tests.{leb-true, le-leb}
 use lib.Seq.{drop-at, getD-append-add}
 use native.Mathlib.Nat.{min-le-left, min-le-right}
 use Rattle.laws.specs.Bytes.{Bytes}
 use Rattle.laws.specs.Layout.{field, part}
+use Rattle.laws.proofs.Cases.{which}
 use Rattle.laws.proofs.Layouts.{part-part}
 use Rattle.verdicts.specs.Verdicts.{outright}
 use Rattle.verdicts.specs.declared.Fault.the-variants.{SmallRoom}
 use Rattle.verdicts.specs.declared.Verdict.{Verdict}
 use Rattle.verdicts.proofs.Apart.{never-zero}
-use Rattle.container.specs.Reading.{outcome}
+use Rattle.container.specs.Reading.{Parsed, values, fault, parsed, outcome}
 use Rattle.container.proofs.Named.{named-back}
-use Rattle.container.proofs.Promise.{exactly-when}
+use Rattle.container.proofs.Promise.{exact, named, exactly-when}
 use Rattle.views.specs.Views.{viewed}
 use Rattle.views.proofs.Elements.{Shows, element-view}
 use Rattle.points.specs.Points.{pointBytes, dataOf, HasPoints}
@@ -26,7 +28,8 @@ use Rattle.points.specs.Calls.{nothing, entries, Five, five, listsOf, HoldsEach
 use Rattle.points.specs.declared.Point.{Point}
 use Rattle.points.specs.declared.Listed.{Listed}
 use Rattle.points.proofs.Back.{shows-points, shows-long}
-use Rattle.points.proofs.Once.{has-points, only-points, told, same-room, says-once}
+use Rattle.points.proofs.Record.{firstPoints, secondPoints}
+use Rattle.points.proofs.Once.{valueOf, has-points, only-points, same-room, says-once}
 use Rattle.columns.specs.Columns.{shortest}
 use Rattle.columns.proofs.Filling.{entries-front, entries-long}
 use Rattle.columns.proofs.Shortest.{shortest-exact}
@@ -100,27 +103,45 @@ points-clean {before = before} {after} f =
 pub no-counts : {today : ℕ} {c : List ℕ} {Room : ℕ → Type 0} {r : Listed} {ps : List Point} → Says today c Room r ps → (r .verdict .number ≡ 0 → ⊥) → (r .first ≡ 0) × (r .second ≡ 0)
 no-counts s z = let (e, f, g) = refused-none s z in (f, g)
 
--- ---- there is an answer
+-- ---- the answer, computed, and the points of both views, by what is read of the bytes and by which numbers of points there is room for
+
+pub record Told : Type 0 where
+  pub answer : Listed
+  pub first : List Point
+  pub second : List Point
+
+abbrev pub computed : Parsed (List ℕ) → (ℕ → Bool) → Told
+computed (fault f) holds = record { answer = refusedBy f; first = []; second = [] }
+computed (values vs) holds =
+    let d = dataOf (valueOf vs) in
+    cond (holds (length (firstPoints d ++ secondPoints d))) (record { answer = counted (firstPoints d) (secondPoints d); first = firstPoints d; second = secondPoints d })
+    (record { answer = refusedBy (outright SmallRoom); first = []; second = [] })
+
+pub computed-says : {today : ℕ} {c : List ℕ} → Bytes c → {Room : ℕ → Type 0} (holds : ℕ → Bool) → ((n : ℕ) → (holds n ≡ true) ↔ Room n)
+    → let t = computed (parsed 6 today c) holds in Says today c Room (t .answer) (t .first ++ t .second)
+computed-says {today} {c} b {Room} holds e = go (parsed 6 today c) refl
+  where
+    go : (p : Parsed (List ℕ)) → parsed 6 today c ≡ p → Says today c Room (computed p holds .answer) (computed p holds .first ++ computed p holds .second)
+    go (fault f) q = breaks f (named 6 today c b f q) refl refl
+    go (values vs) q =
+        let d = dataOf (valueOf vs) in
+        let h = has-points b vs (exact 6 today c b vs .0 q) in
+        elim (which (holds (length (firstPoints d ++ secondPoints d)))) [
+          | inl t ↦ rw t (fits (firstPoints d) (secondPoints d) h (e _ .0 t) refl refl)
+          | inr t ↦ rw t (short (firstPoints d) (secondPoints d) h (λ k. true≢false (sym (e _ .1 k) ∙ t)) refl refl)
+        ]
+
+-- so there is an answer
+up-to : (room n : ℕ) → (leb n room ≡ true) ↔ (n ≤ room)
+up-to room n = (leb-true n room, le-leb n room)
 
 module _ {today : ℕ} {c : List ℕ} (b : Bytes c) where
-  answered : (n : ℕ) → (r : Listed) × (ps : List Point) × Says today c (λ m. m ≤ n) r ps
-  answered n = elim (told {today = today} {c = c} b) [
-    | inl t ↦ (refusedBy (t .0), [], breaks (t .0) (t .1) refl refl)
-    | inr t ↦ elim (decLe (length (t .0 ++ t .1)) n) [
-      | yes h ↦ (counted (t .0) (t .1), t .0 ++ t .1, fits (t .0) (t .1) (t .2) h refl refl)
-      | no h ↦ (refusedBy (outright SmallRoom), [], short (t .0) (t .1) (t .2) h refl refl)
-    ]
-  ]
-
   pub lists-answer : (before : Five) → (after : Five) × (r : Listed) × Lists today c before after r
   lists-answer before =
-      let (r, ps, s) = answered (shortest before) in
-      (listsOf ps before, r, record { fills = record { listed = ps; says = same-room (shortest-exact before) s; left = refl } })
+      (_, _, record { fills = record { listed = _; says = same-room (shortest-exact before) (computed-says b (λ n. leb n (shortest before)) (up-to (shortest before))); left = refl } })
 
   pub points-answer : (before : List Point) → (after : List Point) × (r : Listed) × Points today c before after r
-  points-answer before =
-      let (r, ps, s) = answered (length before) in
-      (entries ps (length before), r, record { fills = record { listed = ps; says = s; left = refl } })
+  points-answer before = (_, _, record { fills = record { listed = _; says = computed-says b (λ n. leb n (length before)) (up-to (length before)); left = refl } })
 
 -- ---- and only one
 
@@ -237,7 +258,7 @@ refused-as {today} {c} b j n (fits g t h s a l) = absurd (n (rw (j .answer) (exa
 
 pub as-a-list : AsAList
 as-a-list = record {
-  has-points = λ today vs c b k. has-points b vs k;
+  has-points = λ today vs c b k. (_, _, has-points b vs k);
   only-points = λ today c b first second one two h k. only-points b h k;
   most-points = λ today c first second h. rw length-append (omega (arith, h .shows .first-view .few, h .shows .second-view .few));
   lists-filled = λ today c before after r b f first second h k.

@@ -1,4 +1,4 @@
--- The examples of document 01, P1 to P14, those of requests 2026-04, 2026-13, 2026-02, 2026-01, 2026-03, 2026-05, 2026-06 and 2026-12, and further rows, as one table: what each row says, over the rules themselves, and the table.
+-- The examples of document 01, P1 to P14, those of requests 2026-04, 2026-13, 2026-02, 2026-01, 2026-03, 2026-05, 2026-06, 2026-12 and 2026-10, and further rows, as one table: what each row says, over the rules themselves, and the table.
 use Prim.Native.Nat.{ℕ, zero, suc, _+_}
 use mathlib.Core.Path.{_≡_}
 use mathlib.Core.Option.{Option, none, some}
@@ -21,7 +21,11 @@ use Rattle.rules.specs.Rules.{application}
 use Rattle.container.specs.Container.{Values, container, Conforms}
 use Rattle.container.specs.InOrder.{Named}
 use Rattle.sheet.specs.declared.Checked.{Checked}
-use Rattle.prosianek.specs.Calls.{Checks, Writes, Reports}
+use Rattle.points.specs.Calls.{entries, Five, listsOf}
+use Rattle.points.specs.declared.Point.{Point}
+use Rattle.points.specs.declared.Listed.{Listed}
+use Rattle.prosianek.specs.Calls.{Checks, Writes, Reports, Lists, Points}
+use Rattle.promises.specs.Demands.{sizes}
 
 -- ---- what a row of the table says
 
@@ -41,6 +45,8 @@ pub data Example : Type 0 where
   checks : ℕ → List ℕ → ℕ → ℕ → ℕ → Tag → ℕ → List ℕ → Example
   writes : ℕ → List ℕ → ℕ → ℕ → ℕ → Tag → List ℕ → Example
   reports : ℕ → List ℕ → ℕ → ℕ → List ℕ → Example
+  fills-lists : List ℕ → List ℕ → ℕ → ℕ → Tag → List Point → List Point → Example
+  fills-points : List ℕ → ℕ → ℕ → ℕ → Tag → List Point → List Point → Example
 
 -- "With today 20260301"
 abbrev pub today : ℕ
@@ -68,6 +74,12 @@ Holds (writes kind s room number place tag c) = (before after : List ℕ) (r : D
 -- a report with a room of so many bytes, whatever they were, answers this number, no place and no tag, and leaves this text and zeros
 Holds (reports kind c room number text) = (before after : List ℕ) (r : Done) → length before ≡ room → Reports kind today c before after r
     → (r ≡ record { number = number; place = 0; tag = NoTag; length = length text }) × (after ≡ filled text room)
+-- five lists of these lengths, whatever they held, answer this number, place and tag, and get the points of a first and of a second view, with their counts
+Holds (fills-lists c rooms number place tag first second) = (before after : Five) (r : Listed) → sizes before ≡ rooms → Lists today c before after r
+    → (r ≡ record { verdict = record { number = number; place = place; tag = tag }; first = length first; second = length second }) × (after ≡ listsOf (first ++ second) before)
+-- and so does a list of so many points
+Holds (fills-points c room number place tag first second) = (before after : List Point) (r : Listed) → length before ≡ room → Points today c before after r
+    → (r ≡ record { verdict = record { number = number; place = place; tag = tag }; first = length first; second = length second }) × (after ≡ entries (first ++ second) room)
 
 abbrev pub All : List Example → Type 0
 All [] = Unit {0}
@@ -167,6 +179,49 @@ record38 =
 
 abbrev fingers : ℕ → List ℕ
 fingers quality = container 6 (some (cbeffHead 38 1 0x001B 0x0201 0x08 0x80 quality cbeffEnd ++ (record38 ++ (0x30 ∷ []))) ∷ some [] ∷ [])
+
+-- 2026-10: the points of a worked case, as six bytes each and as five numbers; a view with so many points, these; a FINGERS whose record says so many bytes and
+-- has these two views; and those of two points and one, of none, of 128 and 128, and of one of type 3
+abbrev a6 : List ℕ
+a6 = 0x40 ∷ 0x10 ∷ 0x3F ∷ 0x22 ∷ 0x50 ∷ 0x32 ∷ []
+
+abbrev a5 : Point
+a5 = record { sort = 1; x = 16; y = 16162; angle = 80; quality = 50 }
+
+abbrev b6 : List ℕ
+b6 = 0xBF ∷ 0xFF ∷ 0x3F ∷ 0xFF ∷ 0xB3 ∷ 0x64 ∷ []
+
+abbrev b5 : Point
+b5 = record { sort = 2; x = 16383; y = 16383; angle = 179; quality = 100 }
+
+abbrev z5 : Point
+z5 = record { sort = 0; x = 0; y = 0; angle = 0; quality = 0 }
+
+abbrev view : ℕ → List ℕ → List ℕ
+view m points = 2 ∷ 0 ∷ 40 ∷ m ∷ (points ++ (0 ∷ 0 ∷ []))
+
+abbrev pointed : ℕ → List ℕ → List ℕ → List ℕ
+pointed size one two =
+    container 6
+    (some (cbeffHead size 1 0x001B 0x0201 0x08 0x80 0x64 cbeffEnd
+    ++ (0x46 ∷ 0x4D ∷ 0x52 ∷ 0x00 ∷ 0x20 ∷ 0x32 ∷ 0x30 ∷ 0x30 ∷ (number 2 size ++ (replicate 10 9 ++ (0 ∷ 197 ∷ 0 ∷ 197 ∷ 2 ∷ 0 ∷ (one ++ (two ++ (0x30 ∷ []))))))))
+    ∷ some [] ∷ [])
+
+abbrev twoAndOne : List ℕ
+twoAndOne = pointed 56 (view 2 (a6 ++ b6)) (view 1 (replicate 6 0))
+
+abbrev noPoints : List ℕ
+noPoints = pointed 38 (view 0 []) (view 0 [])
+
+abbrev times : ℕ → List ℕ → List ℕ
+times zero s = []
+times (suc n) s = s ++ times n s
+
+abbrev mostPoints : List ℕ
+mostPoints = pointed 1574 (view 128 (times 128 a6)) (view 128 (times 128 b6))
+
+abbrev typeThree : List ℕ
+typeThree = pointed 44 (view 1 (0xC0 ∷ 0x10 ∷ 0x3F ∷ 0x22 ∷ 0x50 ∷ 0x32 ∷ [])) (view 0 [])
 
 -- 2026-05: an image's information, its four fields that 9.6 names given; a block that says so many bytes and points; a record that says so many bytes and
 -- images
@@ -600,4 +655,30 @@ examples =
     ∷ reports 11 (longestCard 11) 512 0 (ascii "CARD 4\nkind CARDAUTH\nbytes 10065\ntoday 20260301\nverdict 0 0 --\nELEMENTS 4\n70 10012\n71 1\n72 38\nFE 0\nOPEN 0\n")
     ∷ reports 12 (longestCard 12) 512 0 (ascii "CARD 4\nkind IRIS\nbytes 10166\ntoday 20260301\nverdict 0 0 --\nELEMENTS 2\nBC 10156\nFE 0\nOPEN 2\nagency 1234\nsystem 0001\n")
     ∷ reports 11 unended 512 0 (ascii "CARD 4\nkind CARDAUTH\nbytes 10023\ntoday 20260301\nverdict 15 10023 --\nELEMENTS 0\nOPEN 0\n")
+    -- 2026-10: two points and one, in lists that are just long enough, and in lists of different lengths; with each of the five one too short
+    ∷ fills-lists twoAndOne (3 ∷ 3 ∷ 3 ∷ 3 ∷ 3 ∷ []) 0 0 NoTag (a5 ∷ b5 ∷ []) (z5 ∷ [])
+    ∷ fills-lists twoAndOne (3 ∷ 4 ∷ 3 ∷ 5 ∷ 3 ∷ []) 0 0 NoTag (a5 ∷ b5 ∷ []) (z5 ∷ [])
+    ∷ fills-lists twoAndOne (2 ∷ 4 ∷ 3 ∷ 5 ∷ 3 ∷ []) 3 0 NoTag [] []
+    ∷ fills-lists twoAndOne (3 ∷ 2 ∷ 3 ∷ 5 ∷ 3 ∷ []) 3 0 NoTag [] []
+    ∷ fills-lists twoAndOne (3 ∷ 4 ∷ 2 ∷ 5 ∷ 3 ∷ []) 3 0 NoTag [] []
+    ∷ fills-lists twoAndOne (3 ∷ 4 ∷ 3 ∷ 2 ∷ 3 ∷ []) 3 0 NoTag [] []
+    ∷ fills-lists twoAndOne (3 ∷ 4 ∷ 3 ∷ 5 ∷ 2 ∷ []) 3 0 NoTag [] []
+    -- in a list of points: just long enough, longer, one too short, empty
+    ∷ fills-points twoAndOne 3 0 0 NoTag (a5 ∷ b5 ∷ []) (z5 ∷ [])
+    ∷ fills-points twoAndOne 5 0 0 NoTag (a5 ∷ b5 ∷ []) (z5 ∷ [])
+    ∷ fills-points twoAndOne 2 3 0 NoTag [] []
+    ∷ fills-points twoAndOne 0 3 0 NoTag [] []
+    -- no points fit empty lists; 128 and 128 fit 256 entries, and not 255
+    ∷ fills-lists noPoints (0 ∷ 0 ∷ 0 ∷ 0 ∷ 0 ∷ []) 0 0 NoTag [] []
+    ∷ fills-points noPoints 0 0 0 NoTag [] []
+    ∷ fills-points noPoints 1 0 0 NoTag [] []
+    ∷ fills-lists mostPoints (256 ∷ 256 ∷ 256 ∷ 256 ∷ 256 ∷ []) 0 0 NoTag (replicate 128 a5) (replicate 128 b5)
+    ∷ fills-points mostPoints 256 0 0 NoTag (replicate 128 a5) (replicate 128 b5)
+    ∷ fills-points mostPoints 255 3 0 NoTag [] []
+    -- a broken rule comes before 3, and where there is room; a face, and no bytes, as FINGERS
+    ∷ fills-points typeThree 0 22 3 (Of 0xBC) [] []
+    ∷ fills-points typeThree 1 22 3 (Of 0xBC) [] []
+    ∷ fills-lists typeThree (0 ∷ 1 ∷ 1 ∷ 1 ∷ 1 ∷ []) 22 3 (Of 0xBC) [] []
+    ∷ fills-points (face 0x64) 9 21 3 (Of 0xBC) [] []
+    ∷ fills-points [] 9 10 0 NoTag [] []
     ∷ []
