@@ -21,6 +21,7 @@ use Rattle.minutiae.specs.Judged as minutiae
 use Rattle.minutiae.proofs.Examples as minutiae-examples
 use Rattle.facial.specs.Judged as facial
 use Rattle.facial.proofs.Examples as facial-examples
+use Rattle.pictures.specs.Judged as picture-judged
 use Rattle.iris.specs.Judged as iris-judged
 use Rattle.iris.proofs.Examples as iris-examples
 use Rattle.cbeff.specs.Header.{fingers, face, iris, header}
@@ -79,7 +80,7 @@ unfolding isMoment exists daysIn isCreator ended isFascn decoded valuesOf framed
 each-kept = (refl, refl, refl, refl)
 
 pub iris-kept : (of-iris iris-value ≡ kept) × (of-iris face-value ≡ breaks BadHeader) × (of-face iris-value ≡ breaks BadHeader)
-unfolding isMoment exists daysIn isCreator ended isFascn decoded valuesOf framed exclusive ones fills whole iris-judged.isIris iris-judged.recordHead iris-judged.extent iris-judged.dateHolds iris-judged.marksHold iris-judged.shapeHolds digits
+unfolding isMoment exists daysIn isCreator ended isFascn decoded valuesOf framed exclusive ones fills whole iris-judged.isIris iris-judged.recordHead iris-judged.extent picture-judged.dateHolds picture-judged.marksHold picture-judged.shapeHolds digits
 iris-kept = (refl, refl, refl)
 
 -- "The quality is a signed byte, -2 to 100": FD is -3, FE -2, FF -1, 64 hex 100
@@ -106,7 +107,7 @@ pub iris-quality :
     × (of-iris (set iris-value 40 0xFF) ≡ kept)
     × (of-iris (set iris-value 40 0x65) ≡ breaks BadHeader)
     × (of-iris (set (set iris-value 8 0x00) 9 0x1B) ≡ breaks BadHeader)
-unfolding isMoment exists daysIn isCreator ended isFascn decoded valuesOf framed exclusive ones fills whole iris-judged.isIris iris-judged.recordHead iris-judged.extent iris-judged.dateHolds iris-judged.marksHold iris-judged.shapeHolds digits
+unfolding isMoment exists daysIn isCreator ended isFascn decoded valuesOf framed exclusive ones fills whole iris-judged.isIris iris-judged.recordHead iris-judged.extent picture-judged.dateHolds picture-judged.marksHold picture-judged.shapeHolds digits
 iris-quality = (refl, refl, refl, refl, refl)
 
 -- a FASC-N that is none (P2's) is told before the reserved bytes, which alone are the header's fault; and a creator that is none before it
@@ -138,7 +139,7 @@ pub iris-order :
     (of-iris (set iris-value 128 0x65) ≡ breaks BadIris)
     × (of-iris (set (set iris-value 128 0x65) 84 0x01) ≡ breaks BadHeader)
     × (of-iris (set (set iris-value 128 0x65) 83 0xEA) ≡ breaks BadFascn)
-unfolding isMoment exists daysIn isCreator ended isFascn decoded valuesOf framed exclusive ones fills whole iris-judged.isIris iris-judged.recordHead iris-judged.extent iris-judged.dateHolds iris-judged.marksHold iris-judged.shapeHolds digits
+unfolding isMoment exists daysIn isCreator ended isFascn decoded valuesOf framed exclusive ones fills whole iris-judged.isIris iris-judged.recordHead iris-judged.extent picture-judged.dateHolds picture-judged.marksHold picture-judged.shapeHolds digits
 iris-order = (refl, refl, refl)
 
 -- d and s are not zero, also where the length is as they say; and it is as they say

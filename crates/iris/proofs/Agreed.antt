@@ -11,7 +11,8 @@ use Rattle.laws.specs.Format.{Format, Agrees, end, _or_}
 use Rattle.laws.proofs.Cases.{and-true, and-is, either}
 use Rattle.laws.proofs.Formats.{is-agrees, or-agrees, at-least-agrees, between-agrees, both-agree, anything-agrees, any-number-agrees, numbered-agree, _next_}
 use Rattle.dates.proofs.Calendars.{exists-exact}
-use Rattle.iris.specs.Iris.{dayOf, captured, properties, centre, image, pixelsOf, pixels, picture, representation, within, iris}
+use Rattle.pictures.specs.Pictures.{properties, centre}
+use Rattle.iris.specs.Iris.{dayOf, captured, image, pixelsOf, pixels, picture, representation, within, iris}
 
 day-agrees : (year month day : ℕ) → day < 256 ^ 1 → (dayOf year month .test day ≡ true) ↔ dayOf year month .says day
 day-agrees year month day h = exists-exact year month day

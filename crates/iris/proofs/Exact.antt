@@ -18,7 +18,8 @@ use Rattle.laws.proofs.Formats.{skim, cond-and}
 use Rattle.records.specs.declared.Extent.the-variants.{Takes}
 use Rattle.records.proofs.Exact.{Extends, whole-exact}
 use Rattle.iris.specs.Iris.{captured, image, pixels, picture, representation, iris, IsIris}
-use Rattle.iris.specs.Judged.{dateHolds, marksHold, shapeHolds, imageHolds, partsHold, extent, extentOf, recordHead, isIris}
+use Rattle.pictures.specs.Judged.{dateHolds, marksHold, shapeHolds, imageHolds}
+use Rattle.iris.specs.Judged.{partsHold, extent, extentOf, recordHead, isIris}
 use Rattle.iris.proofs.Agreed.{iris-agrees}
 use Rattle.iris.proofs.Told.{told}
 use Rattle.iris.proofs.Ways.{takes}

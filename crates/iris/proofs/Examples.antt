@@ -8,7 +8,8 @@ use Rattle.laws.specs.Digits.{digits}
 use Rattle.laws.specs.Layout.{number}
 use Rattle.dates.specs.Calendar.{daysIn, exists}
 use Rattle.records.specs.Fills.{fills, whole}
-use Rattle.iris.specs.Judged.{dateHolds, marksHold, shapeHolds, extent, recordHead, isIris}
+use Rattle.pictures.specs.Judged.{dateHolds, marksHold, shapeHolds}
+use Rattle.iris.specs.Judged.{extent, recordHead, isIris}
 
 -- 1 March 2026, 10:30:59.500
 abbrev pub when : List ℕ

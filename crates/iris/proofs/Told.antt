@@ -10,7 +10,8 @@ use Rattle.laws.specs.Layout.{field}
 use Rattle.laws.proofs.Cases.{all-true}
 use Rattle.records.specs.declared.Extent.the-variants.{Takes, None}
 use Rattle.records.proofs.Ways.{takes-of}
-use Rattle.iris.specs.Judged.{dateHolds, imageHolds, partsTests, partsHold, sized, extent}
+use Rattle.pictures.specs.Judged.{dateHolds, imageHolds}
+use Rattle.iris.specs.Judged.{partsTests, partsHold, sized, extent}
 
 pub record Representation (i : ℕ) (s : List ℕ) (n : ℕ) : Type 0 where
   pub size : n ≡ field s 0 4

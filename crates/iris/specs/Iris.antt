@@ -1,14 +1,13 @@
 -- 2026-06: the iris container's record is judged by document 004, "section 9.7". The record as a table; where its fields stand is the layout of
 -- ISO/IEC 19794-6:2011 (docs/DECISIONS.md), and what 9.7 does not name is free.
-use Prim.Native.Nat.{ℕ, _+_, _*_, _/_, _≤_}
+use Prim.Native.Nat.{ℕ, _+_, _*_, _≤_}
 use mathlib.Core.Path.{_≡_}
-use mathlib.Core.Logic.{_⊎_}
-use mathlib.Core.Bool.{_&&_, _||_}
 use mathlib.Core.List.{List}
 use lib.ListN.{length}
 use lib.Dec.{leb, eqb}
 use Rattle.laws.specs.Format.{Rule, Format, end, num, Laid, is, _or_, atLeast, between, _and_, anything, one, free, numbered}
 use Rattle.dates.specs.Calendar.{Exists, exists}
+use Rattle.pictures.specs.Pictures.{properties, centre}
 
 -- ---- 9.7.2: "Capture date and time is 2011 onwards", a date that exists (01, "Dates"), and a time of day to the millisecond
 
@@ -26,21 +25,6 @@ captured k =
     (one 2 (between 0 999) k))))))))  -- milliseconds
 
 -- ---- the image
-
--- "(Bits 1-2: 01 or 10), (Bits 3-4: 01 or 10), (Bits 5-6: 01 ..), and (Bits 7-8: 01 ..)"
-abbrev pub properties : Rule ℕ
-properties = record {
-  says = λ n. (low : ℕ) × (high : ℕ) × (1 or 2) .says low × (1 or 2) .says high × (n ≡ low + 4 * high + 16 * 1 + 64 * 1);
-  test = λ n. eqb n 0x55 || eqb n 0x56 || eqb n 0x59 || eqb n 0x5A;
-}
-
--- "Iris centre, lowest X is (W/2 for W odd, else)", "highest X is (W/2+1 for W even)": in an even width the pair W/2 and W/2 + 1, in an odd one twice
--- (W + 1)/2, and the same of a height; what the highest has to be, behind the lowest
-abbrev pub centre : ℕ → ℕ → Rule ℕ
-centre w lowest = record {
-  says = λ highest. ((2 * lowest ≡ w) × (highest ≡ lowest + 1)) ⊎ ((2 * lowest ≡ w + 1) × (highest ≡ lowest));
-  test = λ highest. eqb lowest ((w + 1) / 2) && eqb highest (w / 2 + 1);
-}
 
 abbrev pub centred : ℕ → Format (Unit {0}) → Format (Unit {0})
 centred w k = num 2 anything tt (λ lowest. one 2 (centre w lowest) k)

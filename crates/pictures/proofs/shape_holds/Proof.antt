@@ -1,8 +1,8 @@
--- `iris::shape_holds` meets its contract. Assumes nothing.
+-- `pictures::shape_holds` meets its contract. Assumes nothing.
 use borrow.Author.Needs.{needs}
-use Rattle.iris.specs.Judged.{shapeHolds}
-use Rattle.iris.proofs.shape_holds.Statement.{statement}
-use Rattle.iris.proofs.shape_holds.Tie as tie
+use Rattle.pictures.specs.Judged.{shapeHolds}
+use Rattle.pictures.proofs.shape_holds.Statement.{statement}
+use Rattle.pictures.proofs.shape_holds.Tie as tie
 
 returns : tie.Need-returns
 unfolding shapeHolds

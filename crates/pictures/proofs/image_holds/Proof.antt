@@ -1,7 +1,7 @@
--- `iris::image_holds` meets its contract. Assumes nothing.
+-- `pictures::image_holds` meets its contract. Assumes nothing.
 use borrow.Author.Needs.{needs}
-use Rattle.iris.proofs.image_holds.Statement.{statement}
-use Rattle.iris.proofs.image_holds.Tie as tie
+use Rattle.pictures.proofs.image_holds.Statement.{statement}
+use Rattle.pictures.proofs.image_holds.Tie as tie
 
 returns : tie.Need-returns
 returns c = rw (c .shape-holds .ensures, c .before .marks-hold .ensures)

@@ -1,8 +1,8 @@
--- `iris::date_holds` meets its contract. Assumes nothing.
+-- `pictures::date_holds` meets its contract. Assumes nothing.
 use borrow.Author.Needs.{needs}
-use Rattle.iris.specs.Judged.{dateHolds}
-use Rattle.iris.proofs.date_holds.Statement.{statement}
-use Rattle.iris.proofs.date_holds.Tie as tie
+use Rattle.pictures.specs.Judged.{dateHolds}
+use Rattle.pictures.proofs.date_holds.Statement.{statement}
+use Rattle.pictures.proofs.date_holds.Tie as tie
 
 returns : tie.Need-returns
 unfolding dateHolds

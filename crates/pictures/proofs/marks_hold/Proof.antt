@@ -1,8 +1,8 @@
--- `iris::marks_hold` meets its contract. Assumes nothing.
+-- `pictures::marks_hold` meets its contract. Assumes nothing.
 use borrow.Author.Needs.{needs}
-use Rattle.iris.specs.Judged.{marksHold}
-use Rattle.iris.proofs.marks_hold.Statement.{statement}
-use Rattle.iris.proofs.marks_hold.Tie as tie
+use Rattle.pictures.specs.Judged.{marksHold}
+use Rattle.pictures.proofs.marks_hold.Statement.{statement}
+use Rattle.pictures.proofs.marks_hold.Tie as tie
 
 returns : tie.Need-returns
 unfolding marksHold
