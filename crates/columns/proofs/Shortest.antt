@@ -1,32 +1,25 @@
 -- What a plan lists in five lists, of which the shortest counts. Assumes nothing.
-use Prim.Native.Nat.{ℕ, _+_, _≤_}
+use Prim.Native.Nat.{ℕ, _+_, _≤_, min}
 use mathlib.Core.Path.{_≡_}
-use mathlib.Core.Bool.{cond}
 use mathlib.Core.Logic.{_↔_}
 use mathlib.Core.List.{List}
 use native.Mathlib.Omega.{arith}
 use lib.ListN.{length}
-use lib.Dec.{ltb}
-use borrow.Author.Tests.{ltb-true, ltb-false}
-use Rattle.laws.proofs.Cases.{test}
 use Rattle.points.specs.Calls.{Five, listsOf, HoldsEach, FillsLists}
 use Rattle.points.specs.Places.{entryOf, along, answerOf, Plans}
 use Rattle.points.proofs.Once.{same-room}
-use Rattle.columns.specs.Columns.{fewer, shortest}
+use Rattle.columns.specs.Columns.{shortest}
 use Rattle.points.specs.declared.Plan.{Plan}
 
-fewer-exact : (a b n : ℕ) → (n ≤ fewer a b) ↔ ((n ≤ a) × (n ≤ b))
-fewer-exact a b n =
-    test (ltb a b) (λ t. (n ≤ cond t a b) ↔ ((n ≤ a) × (n ≤ b)))
-    (λ q. let h = ltb-true a b q in (λ l. (l, omega arith), λ l. l .0))
-    (λ q. let h = ltb-false a b q in (λ l. (omega arith, l), λ l. l .1))
+lesser-exact : (a b n : ℕ) → (n ≤ min a b) ↔ ((n ≤ a) × (n ≤ b))
+lesser-exact a b n = (λ l. (omega arith, omega arith), λ (l, m). omega arith)
 
 pub shortest-exact : (l : Five) (n : ℕ) → (n ≤ shortest l) ↔ HoldsEach l n
 shortest-exact l n =
-    let a = fewer-exact (length (l .types)) _ n in
-    let b = fewer-exact (length (l .xs)) _ n in
-    let c = fewer-exact (length (l .ys)) _ n in
-    let d = fewer-exact (length (l .angles)) (length (l .qualities)) n in (
+    let a = lesser-exact (length (l .types)) _ n in
+    let b = lesser-exact (length (l .xs)) _ n in
+    let c = lesser-exact (length (l .ys)) _ n in
+    let d = lesser-exact (length (l .angles)) (length (l .qualities)) n in (
       λ h.
           let (t, h₁) = a .0 h in
           let (x, h₂) = b .0 h₁ in

@@ -1,9 +1,7 @@
 -- Lists of which some entries are replaced, and the shortest of five. Nothing of 01 is said here.
-use Prim.Native.Nat.{ℕ, _+_, _*_, _<_, _≤_}
-use mathlib.Core.Bool.{cond}
+use Prim.Native.Nat.{ℕ, _+_, _*_, _<_, _≤_, min}
 use mathlib.Core.List.{List, _++_}
 use lib.ListN.{length, take, drop}
-use lib.Dec.{ltb}
 use Rattle.points.specs.Calls.{Five}
 use Rattle.points.specs.Places.{along}
 
@@ -15,9 +13,6 @@ spliced f from n l = take from l ++ along f 0 n ++ drop (from + n) l
 abbrev pub Row : List ℕ → ℕ → ℕ → Type 0
 Row c at n = (i : ℕ) → i < n → at + 6 * i + 6 ≤ length c
 
--- the smaller number, and how many entries the shortest of five lists has
-abbrev pub fewer : ℕ → ℕ → ℕ
-fewer a b = cond (ltb a b) a b
-
+-- how many entries the shortest of five lists has
 abbrev pub shortest : Five → ℕ
-shortest l = fewer (length (l .types)) (fewer (length (l .xs)) (fewer (length (l .ys)) (fewer (length (l .angles)) (length (l .qualities)))))
+shortest l = min (length (l .types)) (min (length (l .xs)) (min (length (l .ys)) (min (length (l .angles)) (length (l .qualities)))))

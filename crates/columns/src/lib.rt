@@ -6,7 +6,8 @@ ghost use lib.ListN.{length, take, set};
 ghost use Rattle.laws.specs.Room.{zeros};
 ghost use Rattle.points.specs.Calls.{five, listsOf, HoldsEach, FillsLists};
 ghost use Rattle.points.specs.Places.{pointAt, entryOf, along, Inside};
-ghost use Rattle.columns.specs.Columns.{spliced, Row, fewer};
+ghost use Rattle.columns.specs.Columns.{spliced, Row};
+use numbers::lesser;
 use points::Listed;
 use points::Plan;
 
@@ -141,15 +142,6 @@ fn put_points(
     clear_each(types, xs, ys, angles, qualities, count);
 }
 
-fn fewer(a: usize, b: usize) -> usize
-    ensures { λ r. ⌜ r ≡ fewer a b ⌝ }
-{
-    if a < b {
-        return a;
-    }
-    b
-}
-
 // The plain form: five lists, each filled from its front and zero behind the last point. "Of five lists the shortest counts."
 pub fn lists(
     today: u64,
@@ -162,11 +154,11 @@ pub fn lists(
 ) -> Listed
     ensures { λ r. ⌜ FillsLists today (now (container .entry)) (five (now (types .entry)) (now (xs .entry)) (now (ys .entry)) (now (angles .entry)) (now (qualities .entry))) (five (now (types .exit)) (now (xs .exit)) (now (ys .exit)) (now (angles .exit)) (now (qualities .exit))) r ⌝ }
 {
-    let room = fewer(
+    let room = lesser(
         types.len(),
-        fewer(
+        lesser(
             xs.len(),
-            fewer(ys.len(), fewer(angles.len(), qualities.len())),
+            lesser(ys.len(), lesser(angles.len(), qualities.len())),
         ),
     );
     let plan = points::locate(today, container, room);

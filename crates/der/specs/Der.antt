@@ -1,9 +1,10 @@
 -- Request 2026-04: what a DER item is, and when bytes are one.
-use Prim.Native.Nat.{ℕ, suc, _/_, _%_, _<_, _≤_, max}
+use Prim.Native.Nat.{ℕ, suc, _≤_, max}
 use mathlib.Core.Path.{_≡_}
 use mathlib.Core.List.{List, [], _∷_, _++_}
 use lib.ListN.{length}
-use Rattle.der.specs.Length.{lengthBytes}
+use Rattle.heads.specs.Length.{lengthBytes}
+use Rattle.heads.specs.Tag.{GoodTag, opens}
 
 -- an item: a tag with bytes, or a constructed tag with items
 infixr 5 _then_
@@ -25,14 +26,6 @@ abbrev mutual
   pub allBytes : Items → List ℕ
   allBytes none = []
   allBytes (i then ps) = derBytes i ++ allBytes ps
-
--- "a tag of number 31 or more is 24": the low five bits are not all set
-abbrev pub GoodTag : ℕ → Type 0
-GoodTag t = t % 32 < 31
-
--- the bit 20 hex says that an item is constructed
-abbrev pub opens : ℕ → ℕ
-opens t = t / 32 % 2
 
 -- good tags; the bit 20 hex is clear in a primitive one and set in a constructed one
 abbrev mutual

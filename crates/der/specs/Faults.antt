@@ -6,8 +6,9 @@ use mathlib.Core.List.{List, [], _∷_, _++_}
 use lib.ListN.{length}
 use Rattle.verdicts.specs.declared.Fault.{Fault}
 use Rattle.verdicts.specs.declared.Fault.the-variants.{BadDer, TooDeep}
-use Rattle.der.specs.Length.{lengthBytes}
-use Rattle.der.specs.Der.{Item, Items, derBytes, allBytes, GoodTag, opens, Good, AllGood, levels, allLevels, IsItem, IsCertificate}
+use Rattle.heads.specs.Length.{lengthBytes}
+use Rattle.heads.specs.Tag.{GoodTag, opens}
+use Rattle.der.specs.Der.{Item, Items, derBytes, allBytes, Good, AllGood, levels, allLevels, IsItem, IsCertificate}
 
 -- at the front of s stands a good tag t, a length in fewest bytes and contents c that fit; r is behind them
 abbrev pub Stands : List ℕ → ℕ → List ℕ → List ℕ → Type 0

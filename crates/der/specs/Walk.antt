@@ -1,15 +1,13 @@
 -- The same as one walk over the bytes, in byte order, with the first fault that it meets.
-use Prim.Native.Nat.{ℕ, zero, suc, _+_, _-_, _%_, _≤_, min}
+use Prim.Native.Nat.{ℕ, zero, suc, _+_, _-_, _≤_, min}
 use mathlib.Core.Path.{_≡_}
 use mathlib.Core.Bool.{cond, _&&_}
-use mathlib.Core.Option.{Option, none, some}
 use mathlib.Core.List.{List, [], _∷_}
-use lib.Dec.{ltb, leb, eqb}
+use lib.Dec.{eqb}
 use lib.ListN.{length, take, drop, getD}
-use Rattle.der.specs.Length.{Spelt, readLength}
-use Rattle.der.specs.Der.{opens}
-use Rattle.der.specs.declared.Head.{Head}
-use Rattle.der.specs.declared.Head.the-variants.{Broken, Leaf, Open}
+use Rattle.heads.specs.Head.{headOf}
+use Rattle.heads.specs.declared.Head.{Head}
+use Rattle.heads.specs.declared.Head.the-variants.{Broken, Leaf, Open}
 use Rattle.der.specs.declared.Run.{Run}
 use Rattle.der.specs.declared.Walked.{Walked}
 use Rattle.der.specs.declared.Walked.the-variants.{Whole, Bad, Deep}
@@ -17,22 +15,6 @@ use Rattle.verdicts.specs.Verdicts.{unless}
 use Rattle.verdicts.specs.declared.Ruling.{Ruling}
 use Rattle.verdicts.specs.declared.Ruling.the-variants.{Kept, Breaks}
 use Rattle.verdicts.specs.declared.Fault.the-variants.{BadDer, TooDeep}
-
--- what stands at the front of the bytes that an item's contents still have: a tag and a length, and contents that fit
-abbrev pub sized : ℕ → ℕ → Option Spelt → Head
-sized t room none = Broken
-sized t room (some l) =
-    cond (leb (l .width + l .number) room)
-    (cond (eqb (opens t) 1) (Open (1 + l .width) (1 + l .width + l .number)) (Leaf (1 + l .width + l .number)))
-    Broken
-
--- the same of a length that reads n in w bytes, with the tag's test before it
-abbrev pub headed : ℕ → ℕ → ℕ → ℕ → Head
-headed t room n w = cond (ltb (t % 32) 31) (sized t room (some (record { number = n; width = w }))) Broken
-
-unfoldable pub headOf : List ℕ → Head
-headOf [] = Broken
-headOf (t ∷ s) = cond (ltb (t % 32) 31) (sized t (length s) (readLength s)) Broken
 
 -- the first fault wins
 infixr 5 _thence_

@@ -1,6 +1,6 @@
-// Numbers that stand in bytes, most significant byte first.
+// Numbers that stand in bytes, most significant byte first, and the lesser of two.
 ghost use mathlib.Core.Path.{_≡_};
-ghost use Prim.Native.Nat.{_+_, _^_, _<_, _≤_};
+ghost use Prim.Native.Nat.{_+_, _^_, _<_, _≤_, min};
 ghost use lib.ListN.{length};
 ghost use Rattle.laws.specs.Layout.{field};
 
@@ -30,4 +30,13 @@ pub fn number(s: &[u8], at: usize, width: usize) -> u64
         i += 1;
     }
     n
+}
+
+pub fn lesser(a: usize, b: usize) -> usize
+    ensures { λ r. ⌜ r ≡ min a b ⌝ }
+{
+    if a < b {
+        return a;
+    }
+    b
 }

@@ -35,8 +35,9 @@ use Rattle.minutiae.specs.Judged.{pointHolds, pointsHold, viewHead, extent, rec
 use Rattle.facial.specs.Judged.{informed, extent as blockExtent, recordHead as faceHead, isFacial}
 use Rattle.pictures.specs.Judged.{dateHolds, marksHold, shapeHolds}
 use Rattle.iris.specs.Judged.{extent as irisExtent, recordHead as irisHead, isIris}
-use Rattle.der.specs.Length.{readLength as readDer}
-use Rattle.der.specs.Walk.{headOf, items, judged as walked, certificate}
+use Rattle.heads.specs.Length.{readLength as readDer}
+use Rattle.heads.specs.Head.{headOf}
+use Rattle.der.specs.Walk.{items, judged as walked, certificate}
 use Rattle.verdicts.specs.Verdicts.{numberOf, found, verdictOf}
 use Rattle.verdicts.specs.declared.Fault.{Fault}
 use Rattle.verdicts.specs.declared.Outcome.the-variants.{Broken}

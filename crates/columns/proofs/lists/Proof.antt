@@ -1,9 +1,10 @@
 -- `columns::lists` meets its contract: the room is that of the shortest list, and what is put are the entries of the plan. Assumes nothing.
+use Prim.Native.Nat.{min}
 use mathlib.Core.Path.{ap, _∙_}
 use borrow.Author.Needs.{needs}
 use Rattle.points.specs.Calls.{Five, five}
 use Rattle.points.specs.Places.{Plans}
-use Rattle.columns.specs.Columns.{fewer, shortest}
+use Rattle.columns.specs.Columns.{shortest}
 use Rattle.columns.proofs.Shortest.{shortest-exact, filled-lists}
 use Rattle.columns.proofs.lists.Statement.{statement}
 use Rattle.columns.proofs.lists.Tie as tie
@@ -21,7 +22,7 @@ plans l =
     let b = a .before in
     let c = b .before in
     let d = c .before in
-    let e = a .fewer4 .ensures ∙ ap (fewer _) (b .fewer3 .ensures ∙ ap (fewer _) (c .fewer2 .ensures ∙ ap (fewer _) (d .fewer .ensures))) in
+    let e = a .lesser4 .ensures ∙ ap (min _) (b .lesser3 .ensures ∙ ap (min _) (c .lesser2 .ensures ∙ ap (min _) (d .lesser .ensures))) in
     rw e at (l .locate .ensures)
 
 put-points-requires : tie.Need-put-points-requires

@@ -6,8 +6,8 @@ use native.Mathlib.Omega.{arith}
 use lib.ListN.{length, getD, drop, length-drop}
 use lib.Seq.{getD-drop}
 use borrow.Author.Needs.{needs}
+use Rattle.heads.proofs.Heads.{short-leaf}
 use Rattle.der.specs.Walk.{PassesOver}
-use Rattle.der.proofs.Heads.{short-leaf}
 use Rattle.der.proofs.Turns.{none-passed, one-passed}
 use Rattle.der.proofs.leaves.Statement.{statement}
 use Rattle.der.proofs.leaves.Tie as tie

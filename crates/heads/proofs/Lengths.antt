@@ -18,7 +18,7 @@ use Rattle.laws.specs.Digits.{value}
 use Rattle.laws.proofs.Bases.{value-append}
 use Rattle.laws.proofs.Cases.{which, test, and-true, not-so, no-some}
 use Rattle.laws.proofs.Turns.{read-next}
-use Rattle.der.specs.Length.{grown, fewest, lengthBytes, Spelt, inMany, readLength}
+use Rattle.heads.specs.Length.{grown, fewest, lengthBytes, Spelt, inMany, readLength}
 
 -- ---- the fewest bytes of a number
 

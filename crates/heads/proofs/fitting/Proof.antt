@@ -1,10 +1,10 @@
--- `der::fitting` meets its contract. Assumes nothing.
+-- `heads::fitting` meets its contract. Assumes nothing.
 use Prim.Native.Nat.{_+_, _%_}
 use native.Mathlib.Omega.{arith}
 use borrow.Author.Needs.{needs}
 use borrow.Author.Tests.{lt-ltb, le-ltb, le-leb, lt-leb, eq-eqb, ne-eqb}
-use Rattle.der.proofs.fitting.Statement.{statement}
-use Rattle.der.proofs.fitting.Tie as tie
+use Rattle.heads.proofs.fitting.Statement.{statement}
+use Rattle.heads.proofs.fitting.Tie as tie
 
 returns : tie.Need-returns
 returns c = simp (le-ltb (c .before .args .tag % 32) 31 (omega arith))

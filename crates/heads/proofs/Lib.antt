@@ -1,0 +1,2 @@
+pub mod Lengths
+pub mod Heads
