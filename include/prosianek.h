@@ -1,7 +1,7 @@
-// The seven calls of Prosianek for C and C++: PIV card data containers (SP 800-73-4) checked and read, written, viewed and
-// reported, the points of a FINGERS container as lists, and FASC-N numbers alone. crates/capi/src/lib.rt of the repository has
-// the functions with their contracts. They are in libprosianek.a, which links into x86-64 programs and needs only the C
-// library's memory functions:
+// The eight calls of Prosianek for C and C++: PIV card data containers (SP 800-73-4) checked and read, written, viewed and
+// reported, the points of a FINGERS container as lists, the certificate of a biometric's signer, and FASC-N numbers alone.
+// crates/capi/src/lib.rt of the repository has the functions with their contracts. They are in libprosianek.a, which links into
+// x86-64 programs and needs only the C library's memory functions:
 //     cc program.c $(pkg-config --cflags --libs prosianek)
 //
 // What is proved: every call ends and answers, whatever the bytes, dates, tags and sizes are; number, place, tag, length and
@@ -92,7 +92,18 @@ enum prosianek_number {
     PROSIANEK_BAD_DER = 24,         // DER item: the certificate is none, or no SEQUENCE of three parts
     PROSIANEK_TOO_DEEP = 25,        // an item of the certificate is too deep, below level 8
     PROSIANEK_BAD_FACE = 26,        // face record: its header, an image's information, or the length of a block
-    PROSIANEK_BAD_IRIS = 27         // iris record: its header, a representation's fields, or the length of a part
+    PROSIANEK_BAD_IRIS = 27,        // iris record: its header, a representation's fields, or the length of a part
+    PROSIANEK_FASCN_DIFFER = 28,    // signer: the two containers carry different FASC-N
+    PROSIANEK_BIOMETRIC_BLOCK = 29, // signer: the biometric's signature block is no SignedData
+    PROSIANEK_CHUID_BLOCK = 30,     // signer: the CHUID's is needed, and is none
+    PROSIANEK_NEITHER_HOLDS = 31    // signer: neither holds a certificate
+};
+
+// Which of the two containers of prosianek_signer is meant.
+enum prosianek_which {
+    PROSIANEK_NEITHER = 0,
+    PROSIANEK_IN_CHUID = 1,
+    PROSIANEK_IN_BIOMETRIC = 2
 };
 
 // In all calls: kind is one of enum prosianek_kind; today is a date as an eight-digit number, such as 20260301; container
@@ -100,7 +111,7 @@ enum prosianek_number {
 //
 // A verdict is a number, a place and a tag. The tag says which element is meant, as a number such as 0x30, or 0x5F2F for the
 // tag of two bytes; where none is meant it is PROSIANEK_NO_TAG. By the verdict's number:
-//   - 0, and 1 to 7: no tag;
+//   - 0, 1 to 7, and 28 to 31: no tag;
 //   - 10, and 11 and 12 of the outer length: no tag;
 //   - 15 of a container: the tag found in the place of the missing one; no tag at the container's end, where nothing is found;
 //   - 13: the byte at the place, whatever the card has there, such as 0x00, or 0x5F where no 2F follows;
@@ -175,6 +186,25 @@ uint64_t prosianek_lists(uint64_t today, const uint8_t *container, size_t size, 
                          uint64_t *xs, size_t xs_size, uint64_t *ys, size_t ys_size, uint64_t *angles, size_t angles_size,
                          uint64_t *qualities, size_t qualities_size, uint64_t *place, uint64_t *tag, uint64_t *first,
                          uint64_t *second);
+
+// The certificate of who signed a biometric: it stands in the biometric's own signature block or, where that holds none, in the
+// CHUID's, element 3E. A block has to be a CMS SignedData (RFC 5652) in DER, of at most sixteen levels; the first item of its
+// certificates field is meant, with its tag and length. Nothing is said of whose certificate it is where there are several, and
+// no signature is verified.
+//   kind     the biometric's: PROSIANEK_FINGERS, PROSIANEK_FACE or PROSIANEK_IRIS.
+//   chuid, biometric  the two containers, each with its size. They are only read, and may be the same bytes.
+//   place    as prosianek_check gives it of the container that it refuses; else 0.
+//   tag      likewise; PROSIANEK_NO_TAG where no check refuses, and on a success.
+//   which    one of enum prosianek_which: the container that the certificate lies in, or the one that its check refuses; else 0.
+//   offset   where the certificate starts in that container; 0 on a refusal.
+//   length   its length, with its tag and length; 0 on a refusal.
+// Answers 0 if there is one; else, in this order, 1 if the kind is not one of the three; what prosianek_check answers of the
+// CHUID as kind 2, then what it answers of the biometric; 28 if the FASC-N of the two differ; 29 if the biometric's block is no
+// SignedData; and where that holds no certificate, 30 if the CHUID's is none, 31 if it holds none either. offset + length is at
+// most the size of the container that is named. Nothing of it goes into a report.
+uint64_t prosianek_signer(uint64_t kind, uint64_t today, const uint8_t *chuid, size_t chuid_size, const uint8_t *biometric,
+                          size_t biometric_size, uint64_t *place, uint64_t *tag, uint64_t *which, uint64_t *offset,
+                          uint64_t *length);
 
 // The nine numbers of a FASC-N.
 //   bytes    the FASC-N, size its bytes: 25, or it is refused.

@@ -1,4 +1,4 @@
-//! The seven calls of Prosianek for Rust: safe functions over include/prosianek.h, which says more of each. To use them in a
+//! The eight calls of Prosianek for Rust: safe functions over include/prosianek.h, which says more of each. To use them in a
 //! project of your own, copy this file, and give rustc the folder of libprosianek.a (`-L native=FOLDER`).
 //!
 //! What C callers have to see to, Rust's references bring: they are valid and never null, and what is lent for writing
@@ -29,8 +29,8 @@ pub const LARGEST_CONTAINER: usize = 32_768;
 pub const SHEET_ROOM: usize = 32_774;
 /// A list of this many points holds those of any container.
 pub const MOST_POINTS: usize = 256;
-/// What prosianek_check, prosianek_write, prosianek_view and prosianek_lists write for no tag, which no tag can be. Refused has
-/// None for it.
+/// What prosianek_check, prosianek_write, prosianek_view, prosianek_lists and prosianek_signer write for no tag, which no tag can
+/// be. Refused has None for it.
 pub const NO_TAG: u64 = 65_536;
 
 /// A refusal: its number, as include/prosianek.h lists them, the place of the first broken rule, and the tag of the element
@@ -51,6 +51,13 @@ pub struct Point {
     pub y: u64,
     pub angle: u64,
     pub quality: u64,
+}
+
+/// One of the two containers that signer is given.
+#[derive(Clone, Copy, Debug, PartialEq, Eq)]
+pub enum Which {
+    Chuid,
+    Biometric,
 }
 
 // The functions themselves, as the header declares them.
@@ -117,6 +124,19 @@ extern "C" {
         tag: *mut u64,
         first: *mut u64,
         second: *mut u64,
+    ) -> u64;
+    pub fn prosianek_signer(
+        kind: u64,
+        today: u64,
+        chuid: *const u8,
+        chuid_size: usize,
+        biometric: *const u8,
+        biometric_size: usize,
+        place: *mut u64,
+        tag: *mut u64,
+        which: *mut u64,
+        offset: *mut u64,
+        length: *mut u64,
     ) -> u64;
     pub fn prosianek_fascn_decode(bytes: *const u8, size: usize, numbers: *mut [u64; 9]) -> u64;
     pub fn prosianek_fascn_encode(numbers: *const [u64; 9], room: *mut u8, size: usize) -> u64;
@@ -272,6 +292,43 @@ pub fn points(today: u64, container: &[u8], list: &mut [Point]) -> Result<(usize
         };
     }
     answer(number, place, tag, (first as usize, second as usize))
+}
+
+/// The certificate of who signed a biometric (kind FINGERS, FACE or IRIS), from its own signature block or, where that holds
+/// none, from the CHUID's: which of the two containers it lies in, and where it stands there, so that `&chuid[range]` or
+/// `&biometric[range]` is the certificate, with its tag and length. A refusal says which container it is about where it is that of
+/// a check; the header has the others in their order, 1 and 28 to 31, which are about neither.
+pub fn signer(
+    kind: u64,
+    today: u64,
+    chuid: &[u8],
+    biometric: &[u8],
+) -> Result<(Which, std::ops::Range<usize>), (Option<Which>, Refused)> {
+    let (mut place, mut tag, mut which, mut offset, mut length) = (0, 0, 0, 0, 0);
+    let number = unsafe {
+        prosianek_signer(
+            kind,
+            today,
+            chuid.as_ptr(),
+            chuid.len(),
+            biometric.as_ptr(),
+            biometric.len(),
+            &mut place,
+            &mut tag,
+            &mut which,
+            &mut offset,
+            &mut length,
+        )
+    };
+    let range = offset as usize..(offset + length) as usize;
+    match (which, answer(number, place, tag, range)) {
+        (1, Ok(range)) => Ok((Which::Chuid, range)),
+        // a certificate that is in neither there is not
+        (_, Ok(range)) => Ok((Which::Biometric, range)),
+        (1, Err(refused)) => Err((Some(Which::Chuid), refused)),
+        (2, Err(refused)) => Err((Some(Which::Biometric), refused)),
+        (_, Err(refused)) => Err((None, refused)),
+    }
 }
 
 /// The nine numbers of a FASC-N: agency, system, credential, series, issue, person, category, organisation, association.
