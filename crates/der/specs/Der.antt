@@ -17,6 +17,10 @@ mutual
     none : Items
     _then_ : Item → Items → Items
 
+abbrev pub tagOf : Item → ℕ
+tagOf (primitive t c) = t
+tagOf (constructed t ps) = t
+
 -- its bytes: the tag, the length of the contents in fewest bytes, the contents
 abbrev mutual
   pub derBytes : Item → List ℕ
