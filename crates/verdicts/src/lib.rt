@@ -31,6 +31,10 @@ pub enum Fault {
     TooDeep,
     BadFace,
     BadIris,
+    FascnDiffer,
+    BiometricBlock,
+    ChuidBlock,
+    NeitherHolds,
 }
 
 // What a value's rule answers.
@@ -105,6 +109,10 @@ pub fn number_of(f: Fault) -> u64
         Fault::TooDeep => 25,
         Fault::BadFace => 26,
         Fault::BadIris => 27,
+        Fault::FascnDiffer => 28,
+        Fault::BiometricBlock => 29,
+        Fault::ChuidBlock => 30,
+        Fault::NeitherHolds => 31,
     }
 }
 

@@ -65,7 +65,7 @@ foreign (r ∷ rs) (p ∷ ps) t h =
 no-value : {v : List ℕ} → none ≡ some v → ⊥
 no-value e = let z : _≡_ {A = ℕ} 0 1 = cc in omega arith
 
-value-part : (ps : List (Option Part)) (i : ℕ) (v : List ℕ) → getD (valuesOf ps) i none ≡ some v → (p : Part) × (getD ps i none ≡ some p) × (p .bytes ≡ v)
+pub value-part : (ps : List (Option Part)) (i : ℕ) (v : List ℕ) → getD (valuesOf ps) i none ≡ some v → (p : Part) × (getD ps i none ≡ some p) × (p .bytes ≡ v)
 value-part [] zero v e = absurd (no-value e)
 value-part [] (suc i) v e = absurd (no-value e)
 value-part (none ∷ ps) zero v e = absurd (no-value e)

@@ -1,0 +1,4 @@
+pub mod Elements
+pub mod Ways
+pub mod Both
+pub mod Handing
