@@ -21,15 +21,15 @@ use Rattle.verdicts.specs.declared.Tag.the-variants.{NoTag, Of}
 use Rattle.verdicts.specs.declared.Finding.{Finding}
 use Rattle.verdicts.specs.declared.Fault.{Fault}
 use Rattle.verdicts.specs.declared.Fault.the-variants.{UnknownTag, TagOrder, MissingRow}
-use Rattle.container.specs.Container.{Values, Spellings, tagBytes, long, has, spelled, outerTag, Allowed, Formed, largest}
-use Rattle.container.specs.Reading.{fault, prepend, broken, element, tagHere, parse, outer, located, parsed}
+use Rattle.container.specs.Container.{Values, Spellings, tagBytes, long, has, spelled, outerTag, Allowed, Formed, Conforms, largest}
+use Rattle.container.specs.Reading.{Parsed, fault, prepend, broken, element, tagHere, parse, outer, located, parsed}
 use Rattle.container.specs.InOrder.{Owed, AtFault, not-in-table, not-to-come, passed-over, in-row, Wrong, at-end, at-element, LastThere, First, Named, no-kind, no-date, too-large, outer-tag, outer-length, outer-end, in-element}
 use Rattle.container.proofs.Rows.{Distinct, gone}
 use Rattle.container.proofs.Tags.{Tags, tags, distinct, begins, no-tag, tag-read}
 use Rattle.container.proofs.One.{fits-good}
-use Rattle.container.proofs.Exact.{Apart, skips, partAt, takes, bytes-front, bytes-back, element-length}
+use Rattle.container.proofs.Exact.{Apart, skips, partAt, takes, bytes-front, bytes-back, element-length, no-values}
 use Rattle.container.proofs.Faults.{length-read, none-read, faulty-exact}
-use Rattle.container.proofs.Promise.{kind-exact, named}
+use Rattle.container.proofs.Promise.{kind-exact, exact, named}
 
 -- a mandatory row is not the optional one
 later : (r : Entry) (rs : Table) → r .optional ≡ true → Owed (r ∷ rs) → Owed rs
@@ -208,3 +208,14 @@ module _ (kind today : ℕ) (f : Finding) where
 -- a fault is read exactly where it is the first that is broken
 pub named-exact : (kind today : ℕ) (c : List ℕ) → Bytes c → (f : Finding) → (parsed kind today c ≡ fault f) ↔ Named kind today c f
 named-exact kind today c b f = (named kind today c b f, named-back kind today f c b)
+
+-- so there is only one, and none where the container conforms
+module _ {kind today : ℕ} {c : List ℕ} (b : Bytes c) where
+  pub one-finding : {f g : Finding} → Named kind today c f → Named kind today c g → f ≡ g
+  one-finding {f} {g} n m = go (sym (named-back kind today f c b n) ∙ named-back kind today g c b m)
+    where
+      go : {f g : Finding} → _≡_ {A = Parsed (List ℕ)} (fault f) (fault g) → f ≡ g
+      go e = cc
+
+  pub not-named : {f : Finding} {vs : Values} → Named kind today c f → Conforms kind today vs c → ⊥
+  not-named {f} {vs} n h = no-values (sym (named-back kind today f c b n) ∙ exact kind today c b vs .1 h)

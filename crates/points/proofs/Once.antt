@@ -13,7 +13,7 @@ use Rattle.container.specs.Reading.{Parsed, values, fault}
 use Rattle.container.specs.InOrder.{Named}
 use Rattle.container.proofs.Exact.{no-values}
 use Rattle.container.proofs.Forms.{AllBytes, conforming-bytes}
-use Rattle.container.proofs.Named.{named-back}
+use Rattle.container.proofs.Named.{one-finding, not-named}
 use Rattle.container.proofs.Promise.{exact, unique}
 use Rattle.points.specs.Points.{dataOf, HasPoints}
 use Rattle.points.specs.Calls.{refusedBy, Says, breaks, short, fits}
@@ -59,13 +59,7 @@ module _ {today : ℕ} {c : List ℕ} (b : Bytes c) where
 
   -- no rule is broken where there are points
   pub never : {f : Finding} {g t : List Point} → Named 6 today c f → HasPoints today c g t → ⊥
-  never {f} n h = no-values (sym (named-back 6 today f c b n) ∙ exact 6 today c b (h .values) .1 (h .conforms))
-
-  pub one-finding : {f g : Finding} → Named 6 today c f → Named 6 today c g → f ≡ g
-  one-finding {f} {g} n m = go (sym (named-back 6 today f c b n) ∙ named-back 6 today g c b m)
-    where
-      go : {f g : Finding} → _≡_ {A = Parsed (List ℕ)} (fault f) (fault g) → f ≡ g
-      go e = cc
+  never n h = not-named b n (h .conforms)
 
 -- ---- what is said
 

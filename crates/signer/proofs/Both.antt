@@ -1,8 +1,8 @@
 -- The two containers, by the maps that their checks made: a law for each way out. And a certificate stands where it is said to. Assumes nothing.
 use Prim.Native.Nat.{ℕ, _+_, _-_, _≤_}
 use mathlib.Core.Path.{_≡_, refl, sym, ap, _∙_}
-use mathlib.Core.Logic.{_⊎_, inl, inr}
-use mathlib.Core.Bool.{true, false}
+use mathlib.Core.Logic.{inl, inr}
+use mathlib.Core.Bool.{false}
 use mathlib.Core.Option.{none, some}
 use mathlib.Core.List.{List, [], _∷_}
 use native.Mathlib.Omega.{arith}
@@ -18,28 +18,27 @@ use Rattle.verdicts.specs.Verdicts.{outright, verdictOf}
 use Rattle.verdicts.specs.declared.Fault.the-variants.{UnknownKind, FascnDiffer, BiometricBlock, ChuidBlock, NeitherHolds}
 use Rattle.verdicts.specs.declared.Finding.{Finding}
 use Rattle.verdicts.specs.declared.Outcome.the-variants.{Fine, Broken}
-use Rattle.kinds.specs.Tables.{Entry, Table, table, rowAt}
+use Rattle.kinds.specs.Tables.{Table, table, rowAt}
 use Rattle.kinds.specs.declared.Slot.the-variants.{Holds}
 use Rattle.rules.specs.Rules.{Keeps}
 use Rattle.cbeff.specs.Header as header
-use Rattle.cbeff.specs.declared.Biometric as cbeff
 use Rattle.cbeff.proofs.Exact.{data-inside}
 use Rattle.der.specs.Der.{Item, derBytes}
 use Rattle.blocks.specs.Block.{SignedData, place}
 use Rattle.blocks.proofs.Exact.{stands}
 use Rattle.blocks.proofs.Items.{some-bytes}
-use Rattle.container.specs.Container.{Values, Allowed, Conforms, largest}
+use Rattle.container.specs.Container.{Values, Allowed, largest}
 use Rattle.container.specs.Reading.{located}
 use Rattle.container.specs.Map.{mapOf}
 use Rattle.container.specs.declared.Map.{Map}
 use Rattle.container.proofs.Lying.{read-broken, fine-size}
 use Rattle.container.proofs.Promise.{named}
-use Rattle.signer.specs.Signer.{Element, Chuid, IsBiometric, Biometric, Signed, refusal, InBlocks, own-none, own-holds, block-none, neither, block-holds, Compared, other, same, Says, no-biometric, chuid-breaks, biometric-breaks, both-conform}
+use Rattle.signer.specs.Signer.{Chuid, IsBiometric, Biometric, Signed, refusal, InBlocks, own-none, own-holds, block-none, neither, block-holds, other, same, Says, no-biometric, chuid-breaks, biometric-breaks, both-conform}
 use Rattle.signer.specs.Signer as spec
 use Rattle.signer.specs.Locating as told
 use Rattle.signer.specs.Locating.{nowhere, Tells, InValue, Second, breaks, Locates}
 use Rattle.signer.specs.declared.Located.{Located}
-use Rattle.signer.proofs.Elements.{Row, taken, row, within}
+use Rattle.signer.proofs.Elements.{Row, row, within}
 
 -- ---- the biometric
 

@@ -1,7 +1,7 @@
 -- The elements that must be there, where the map has them; and an element has one value at one place. Assumes nothing.
 use Prim.Native.Nat.{ℕ, zero, suc, _+_, _-_, _<_, _≤_}
 use mathlib.Core.Path.{_≡_, refl, sym, ap, _∙_}
-use mathlib.Core.Bool.{true, false, true≢false}
+use mathlib.Core.Bool.{false, true≢false}
 use mathlib.Core.Option.{Option, none, some}
 use mathlib.Core.List.{List, [], _∷_}
 use native.Mathlib.Omega.{arith}
@@ -12,14 +12,14 @@ use Rattle.laws.specs.Bytes.{Bytes}
 use Rattle.laws.specs.Layout.{part}
 use Rattle.laws.proofs.Cases.{no-some}
 use Rattle.verdicts.specs.declared.Outcome.the-variants.{Fine}
-use Rattle.kinds.specs.Tables.{Entry, Table, table, first, rowAt}
+use Rattle.kinds.specs.Tables.{Table, table, first, rowAt}
 use Rattle.kinds.specs.declared.Slot.the-variants.{End, Holds}
-use Rattle.container.specs.Container.{Values, Fits, Allowed, Conforms}
+use Rattle.container.specs.Container.{Values, Allowed}
 use Rattle.container.specs.Reading.{Part, values, valuesOf, located}
 use Rattle.container.specs.Map.{mapOf}
 use Rattle.container.specs.declared.Map.{Map}
 use Rattle.container.proofs.Lying.{startOf, endOf, lies, told-fine}
-use Rattle.container.proofs.Promise.{partsOf, located-conforms, conforms-located}
+use Rattle.container.proofs.Promise.{located-conforms, conforms-located}
 use Rattle.views.specs.Views.{viewed}
 use Rattle.views.proofs.Elements.{value-part, element-view, element-place}
 use Rattle.views.proofs.Placing.{placed}

@@ -1,13 +1,13 @@
 -- The part that is handed out, of the container that is named. Assumes nothing.
 use Prim.Native.Nat.{ℕ, _+_, _-_, _≤_}
-use mathlib.Core.Path.{_≡_, refl, sym, ap, _∙_}
+use mathlib.Core.Path.{_≡_, ap, _∙_}
 use mathlib.Core.List.{List}
 use native.Mathlib.Omega.{arith}
-use lib.ListN.{length, take, drop}
+use lib.ListN.{take, drop}
 use borrow.Author.Tests.{eq-eqb, ne-eqb}
 use Rattle.verdicts.specs.Verdicts.{tagNumber}
 use Rattle.signer.specs.Signer.{Signs}
-use Rattle.signer.specs.Locating.{Locates, located}
+use Rattle.signer.specs.Locating.{Locates}
 use Rattle.signer.specs.declared.Located.{Located}
 
 module _ {kind today : ℕ} {chuid biometric : List ℕ} {r : Located} (l : Locates kind today chuid biometric r) where

@@ -2,3 +2,4 @@ pub mod Elements
 pub mod Ways
 pub mod Both
 pub mod Handing
+pub mod Once

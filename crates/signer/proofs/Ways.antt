@@ -1,22 +1,18 @@
 -- The two blocks, the two FASC-N and the two containers, by the tests that the code makes: a law for each way out. Assumes nothing.
-use Prim.Native.Nat.{ℕ, _+_, _-_, _<_, _≤_}
-use mathlib.Core.Path.{_≡_, refl, sym, ap, ap₂, _∙_}
-use mathlib.Core.Logic.{_⊎_, inl, inr, _↔_}
+use Prim.Native.Nat.{ℕ, _+_, _≤_}
+use mathlib.Core.Path.{_≡_, refl, sym, _∙_}
+use mathlib.Core.Logic.{inl, inr, _↔_}
 use mathlib.Core.Bool.{true, false, false≢true}
-use mathlib.Core.Option.{none, some}
-use mathlib.Core.List.{List, [], _∷_}
+use mathlib.Core.List.{List}
 use native.Mathlib.Omega.{arith}
 use native.Mathlib.Nat.{add-assoc}
-use lib.Dec.{eqb}
-use lib.ListN.{length, take, drop, getD}
-use borrow.Author.Tests.{eqb-true, eq-eqb}
-use Rattle.laws.specs.Bytes.{Bytes}
+use lib.ListN.{length, drop}
+use borrow.Author.Tests.{eqb-true}
 use Rattle.laws.specs.Layout.{field, part}
 use Rattle.laws.specs.Tests.{same}
-use Rattle.laws.proofs.Cases.{either, or-left, or-right, same-exact}
+use Rattle.laws.proofs.Cases.{either, same-exact}
 use Rattle.verdicts.specs.Verdicts.{outright, verdictOf}
-use Rattle.verdicts.specs.declared.Fault.the-variants.{UnknownKind, FascnDiffer, BiometricBlock, ChuidBlock, NeitherHolds}
-use Rattle.verdicts.specs.declared.Finding.{Finding}
+use Rattle.verdicts.specs.declared.Fault.the-variants.{FascnDiffer, BiometricBlock, ChuidBlock, NeitherHolds}
 use Rattle.verdicts.specs.declared.Outcome.the-variants.{Fine, Broken}
 use Rattle.der.specs.Der.{Item, derBytes}
 use Rattle.blocks.specs.Block.{SignedData, place}
@@ -24,9 +20,9 @@ use Rattle.blocks.specs.Reading.{Reads, no-block, no-certificate, found as foun
 use Rattle.blocks.specs.declared.Block.{Block}
 use Rattle.blocks.specs.declared.Block.the-variants.{Bad, Empty, Holds}
 use Rattle.blocks.proofs.Exact.{stands}
-use Rattle.signer.specs.Signer.{IsBiometric, refusal, found, NoBlock, HoldsNone, Holding, InBlocks, own-none, own-holds, block-none, neither, block-holds, Compared, other}
+use Rattle.signer.specs.Signer.{IsBiometric, refusal, found, NoBlock, HoldsNone, Holding, InBlocks, own-none, own-holds, block-none, neither, block-holds, other}
 use Rattle.signer.specs.Signer as spec
-use Rattle.signer.specs.Locating.{isBiometric, located, nowhere, Tells, InValue}
+use Rattle.signer.specs.Locating.{isBiometric, nowhere, Tells, InValue}
 use Rattle.signer.specs.declared.Located.{Located}
 
 -- ---- the kind

@@ -1,11 +1,10 @@
 -- `signer::in_blocks` meets its contract: a law for each way out. Assumes nothing.
-use mathlib.Core.Path.{sym, _∙_}
 use mathlib.Core.List.{List}
 use Prim.Native.Nat.{ℕ}
 use native.Mathlib.Omega.{arith}
 use borrow.Author.Needs.{needs}
 use Rattle.blocks.specs.Reading.{Reads}
-use Rattle.blocks.specs.declared.Block.the-variants.{Bad, Empty, Holds}
+use Rattle.blocks.specs.declared.Block.the-variants.{Empty, Holds}
 use Rattle.signer.proofs.Ways.{within, out-29, out-own, out-30, out-31, out-block}
 use Rattle.signer.proofs.in_blocks.Statement.{statement}
 use Rattle.signer.proofs.in_blocks.Tie as tie
