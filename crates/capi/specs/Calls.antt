@@ -1,4 +1,4 @@
--- The seven calls that C has: those of the door but the list of points, which C has as five lists. Each record is the whole contract of one function: the record of the door's call, of the numbers that the function answers
+-- The eight calls that C has: those of the door but the list of points, which C has as five lists. Each record is the whole contract of one function: the record of the door's call, of the numbers that the function answers
 -- and stores. A verdict's tag is stored by its number. Nothing is left open (`promises`, `SettledForC`).
 use Prim.Native.Nat.{ℕ}
 use mathlib.Core.Path.{_≡_}
@@ -10,6 +10,7 @@ use Rattle.verdicts.specs.declared.Tag.{Tag}
 use Rattle.verdicts.specs.declared.Tag.the-variants.{NoTag}
 use Rattle.views.specs.Views.{viewed}
 use Rattle.points.specs.Calls.{Five}
+use Rattle.signer.specs.Signer.{Signed, Says}
 use Rattle.prosianek.specs.Calls.{Checks, Writes, Reports, Lists, Decodes, Encodes}
 
 -- nine numbers in 01's order: agency, system, credential, series, issue, person, category, organisation, association
@@ -53,6 +54,17 @@ pub record CLists (today : ℕ) (c : List ℕ) (before after : Five) (number pla
   pub there : Tag
   pub tag-is : tag ≡ tagNumber there
   pub answers : Lists today c before after (record { verdict = record { number = number; place = place; tag = there }; first = first; second = second })
+
+-- a signer's certificate in numbers: it has `size` bytes and starts at `offset` of the container that is named
+pub record CSigners (kind today : ℕ) (chuid biometric : List ℕ) (number place tag which offset size : ℕ) : Type 0 where
+  pub signed : Signed
+  pub says : Says kind today chuid biometric signed
+  pub number-is : number ≡ signed .verdict .number
+  pub place-is : place ≡ signed .verdict .place
+  pub tag-is : tag ≡ tagNumber (signed .verdict .tag)
+  pub which-is : which ≡ signed .which
+  pub offset-is : offset ≡ signed .offset
+  pub size-is : size ≡ length (signed .bytes)
 
 pub record CDecodes (s : List ℕ) (number : ℕ) (numbers : List ℕ) : Type 0 where
   pub answers : Decodes s (record { number = number; numbers = numbersOf numbers })

@@ -1,6 +1,6 @@
-// The seven calls for C: include/prosianek.h declares them. A slice is a pointer and a length there, a lent number a pointer;
+// The eight calls for C: include/prosianek.h declares them. A slice is a pointer and a length there, a lent number a pointer;
 // each function answers 01's number. Each contract is one record of specs/Calls.antt.
-ghost use Rattle.capi.specs.Calls.{CChecks, CWrites, CViews, CReports, CLists, CDecodes, CEncodes};
+ghost use Rattle.capi.specs.Calls.{CChecks, CWrites, CViews, CReports, CLists, CSigners, CDecodes, CEncodes};
 ghost use Rattle.points.specs.Calls.{five};
 use fascn::Numbers;
 
@@ -110,6 +110,32 @@ pub extern "C" fn prosianek_lists(
     *tag = verdicts::tag_number(there);
     *first = listed.first;
     *second = listed.second;
+    verdict.number
+}
+
+// The certificate is told by its offset in the container that is named, as the part of a view is.
+#[no_mangle]
+pub extern "C" fn prosianek_signer(
+    kind: u64,
+    today: u64,
+    chuid: &[u8],
+    biometric: &[u8],
+    place: &mut u64,
+    tag: &mut u64,
+    which: &mut u64,
+    offset: &mut u64,
+    length: &mut u64,
+) -> u64
+    ensures { λ r. ⌜ CSigners kind today (now (chuid .entry)) (now (biometric .entry)) r (now (place .exit)) (now (tag .exit)) (now (which .exit)) (now (offset .exit)) (now (length .exit)) ⌝ }
+{
+    let part = signer::locate(kind, today, chuid, biometric);
+    let verdict = part.verdict;
+    let there = verdict.tag;
+    *place = verdict.place;
+    *tag = verdicts::tag_number(there);
+    *which = part.which;
+    *offset = part.from as u64;
+    *length = (part.to - part.from) as u64;
     verdict.number
 }
 

@@ -1,4 +1,4 @@
--- The eight calls of the door. Each record is the whole contract of one call: what it answers and what it leaves, on every input. Nothing is asked of
+-- The nine calls of the door. Each record is the whole contract of one call: what it answers and what it leaves, on every input. Nothing is asked of
 -- a caller, and nothing of the answer is left open (`promises`, `Settled`).
 use Prim.Native.Nat.{ℕ}
 use mathlib.Core.Logic.{_⊎_}
@@ -20,6 +20,7 @@ use Rattle.views.specs.Views.{viewed, Answers}
 use Rattle.points.specs.Calls.{Five, FillsLists, FillsPoints}
 use Rattle.points.specs.declared.Point.{Point}
 use Rattle.points.specs.declared.Listed.{Listed}
+use Rattle.signer.specs.Signer.{Signs}
 use Rattle.report.specs.Calls.{reportOutput}
 
 -- "Check: 1, 2, 4, then outer 10, 11, 12 (place 0), then each element": the verdict of the bytes c. No room has a part in it
@@ -52,6 +53,11 @@ pub record Lists (today : ℕ) (c : List ℕ) (before after : Five) (r : Listed)
 -- "fill the caller's list of points (type, x, y, angle, quality), first view then second, and give both counts"
 pub record Points (today : ℕ) (c : List ℕ) (before after : List Point) (r : Listed) : Type 0 where
   pub fills : FillsPoints today c before after r
+
+-- 2026-11, "hand back the certificate as a part of the one it lies in, and say which": of a CHUID and a biometric of this kind, which stand at a block and an
+-- offset each, the number, the place, the tag's number and which container, that are stored, and the part that is handed out
+pub record Signers (kind today : ℕ) (chuid biometric : List ℕ) (chuid-at biometric-at : ℕ × ℕ) (number place tag which : ℕ) (part : ℕ × ℕ) (bytes : List ℕ) : Type 0 where
+  pub signs : Signs kind today chuid biometric chuid-at biometric-at number place tag which part bytes
 
 -- "Decoding alone: any string but 25 conforming bytes is 17, with all nine numbers 0": the nine numbers whose FASC-N these bytes are; or there are none
 pub record Decodes (s : List ℕ) (r : Decoded) : Type 0 where

@@ -1,9 +1,9 @@
-// The door: the eight calls, and nothing else. Each contract is one record of specs/Calls.antt.
+// The door: the nine calls, and nothing else. Each contract is one record of specs/Calls.antt.
 //
 // kind is 1 CCC, 2 CHUID, 3 DISCOVERY, 4 PRINTED, 5 SECURITY, 6 FINGERS, 7 FACE, 8 PIVAUTH, 9 DIGSIG, 10 KEYMGMT, 11 CARDAUTH,
 // 12 IRIS; today is a date as an eight-digit number.
 // Every input gets an answer. A room that is lent holds the output afterwards, and zeros: nothing of what was there.
-ghost use Rattle.prosianek.specs.Calls.{Checks, Writes, Views, Reports, Lists, Points, Decodes, Encodes};
+ghost use Rattle.prosianek.specs.Calls.{Checks, Writes, Views, Reports, Lists, Points, Signers, Decodes, Encodes};
 ghost use Rattle.points.specs.Calls.{five};
 use fascn::Decoded;
 use fascn::Numbers;
@@ -77,6 +77,23 @@ pub fn points(today: u64, container: &[u8], list: &mut [Point]) -> Listed
         i += 1;
     }
     points::answer(plan)
+}
+
+// The certificate of who signed a biometric of this kind, as a part of the biometric or of the CHUID; which is 0 for neither, 1
+// for the CHUID, 2 for the biometric.
+pub fn signer<'a>(
+    kind: u64,
+    today: u64,
+    chuid: &'a [u8],
+    biometric: &'a [u8],
+    number: &mut u64,
+    place: &mut u64,
+    tag: &mut u64,
+    which: &mut u64,
+) -> &'a [u8]
+    ensures { λ r. ⌜ Signers kind today (now (chuid .entry)) (now (biometric .entry)) (chuid .entry .ptr) (biometric .entry .ptr) (now (number .exit)) (now (place .exit)) (now (tag .exit)) (now (which .exit)) (r .ptr) (now r) ⌝ }
+{
+    signer::signer(kind, today, chuid, biometric, number, place, tag, which)
 }
 
 // The nine numbers of a FASC-N.
