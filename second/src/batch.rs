@@ -106,14 +106,6 @@ impl Record {
         numbers
     }
 
-    /// The container that is named; the biometric where that is neither.
-    pub fn container(&self, which: Which) -> &[u8] {
-        match which {
-            Which::Chuid => &self.chuid,
-            Which::Biometric | Which::Neither => &self.bytes,
-        }
-    }
-
     /// Makes the call.
     pub fn answer(&self) -> Answer {
         let (kind, today, bytes) = (self.kind, self.today, &self.bytes[..]);
@@ -144,7 +136,10 @@ impl Record {
             }
             Call::Signer => {
                 let ((number, place, tag), which, part) = signer::signer(kind, today, &self.chuid, bytes);
-                Answer { number, place, tag, which: which as u64, ..part_of(self.container(which), part) }
+                // a refusal's part is the biometric's, whichever container it is about
+                let in_chuid = number == number::DONE && which == Which::Chuid;
+                let container = if in_chuid { &self.chuid } else { bytes };
+                Answer { number, place, tag, which: which as u64, ..part_of(container, part) }
             }
             Call::FascnDecode => {
                 let (number, numbers) = values::fascn_decode(bytes);

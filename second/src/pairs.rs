@@ -8,7 +8,7 @@ use crate::generate::{any_container, any_kind, conforming_on, flip_bit, good_or_
 use crate::generate::{Card, Form, Forms, Rng, EXAMPLE_DAY, EXAMPLE_FASCN, LONGEST_FORM};
 use crate::samples::{self, chuid, signed, with_block, with_fascn, wrong_fascn, UUID};
 use crate::signer::{CHUID_KIND, KINDS};
-use crate::values::{fascn_decode, fascn_encode, FASCN_BYTES, HEADER_FASCN};
+use crate::values::{fascn_decode, fascn_encode, FASCN_BYTES, HEADER_BYTES, HEADER_FASCN};
 use crate::{faults, trees, CONTAINER_MAX};
 
 // ---------------------------------------------------------------------------------------------
@@ -241,6 +241,14 @@ fn kinds_and_days() -> Vec<Record> {
     out
 }
 
+/// The biometric with a fault in its header that is not of the FASC-N.
+fn with_reserved_byte(mut card: Card) -> Card {
+    if let Some(value) = &mut card.rows[0] {
+        value[HEADER_BYTES - 1] = 1;
+    }
+    card
+}
+
 /// A kind that is none, a day, a CHUID, a biometric, a FASC-N, a block and the other block that are wrong, each or not.
 fn several_faults() -> Vec<Record> {
     let [none, _] = blocks::holding_none();
@@ -260,7 +268,7 @@ fn several_faults() -> Vec<Record> {
                 pair.chuid = with_fascn(pair.chuid, &with_another_digit(&EXAMPLE_FASCN, 5, 0, 1));
             }
             if wrong(3) {
-                pair.biometric = with_fascn(pair.biometric, &wrong_fascn());
+                pair.biometric = with_reserved_byte(pair.biometric);
             }
             if wrong(2) {
                 pair.chuid = with_fascn(pair.chuid, &wrong_fascn());

@@ -102,7 +102,7 @@ const TAG_1: u8 = 0xA1;
 
 /// What the certificates field of a block holds, if the block is a SignedData in its ContentInfo. One that is not there holds as
 /// little as an empty one. Of the parts that are not opened here the tag alone is asked for.
-fn certificates_in(block: &[u8]) -> Option<&[u8]> {
+pub fn certificates_in(block: &[u8]) -> Option<&[u8]> {
     der::whole(block, BLOCK_LEVELS).ok()?;
     let mut info = Items(Items(block).only(SEQUENCE)?);
     let content_type = info.take(OBJECT_IDENTIFIER)?;
