@@ -577,7 +577,7 @@ fn every_byte() {
     });
     let bytes: usize = pairs::small_records().iter().map(|record| record.chuid.len() + record.bytes.len()).sum();
     assert_eq!(calls, 256 * bytes);
-    // one byte alone never makes another good FASC-N
-    assert!([29, 30].into_iter().all(|number| seen.contains(&neither(number))) && !seen.contains(&neither(28)));
+    // two digits that share a byte can change in it, so that another good FASC-N is there
+    assert!([28, 29, 30].into_iter().all(|number| seen.contains(&neither(number))));
     assert!(seen.contains(&(0, Which::Chuid)) && seen.contains(&(0, Which::Biometric)));
 }
