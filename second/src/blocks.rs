@@ -298,7 +298,8 @@ fn types() -> Vec<Vec<u8>> {
     types.into_iter().map(|content_type| around(content_type).bytes()).collect()
 }
 
-/// Parts of a SignedData that are missing, doubled, exchanged, moved or too many; likewise of its ContentInfo and of that one's content.
+/// Parts of a SignedData that are missing, doubled, exchanged, moved or too many; likewise of its ContentInfo, and of the content of
+/// that.
 fn parts() -> Vec<Vec<u8>> {
     let parts = Block::whole().parts();
     let mut out: Vec<Vec<Tree>> = (0..64usize).map(|there| chosen(&parts, there)).collect();

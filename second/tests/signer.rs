@@ -1,5 +1,5 @@
-//! The certificate of who signed a biometric: which item it is, by a reader of another make, in which container it lies, and which calls
-//! are refused. And that the made calls ask for all of it.
+//! The certificate of who signed a biometric: which item it is, by a reader of another make, in which container it lies, and which
+//! calls are refused. And that the made calls ask for all of it.
 
 use second::batch::{Answer, Call, Record};
 use second::blocks::{self, signed_data, Block};
