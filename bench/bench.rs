@@ -12,10 +12,10 @@ use second::faces::{facial, Image};
 use second::generate::{certificate_kinds, endless_row, Card, Form, Forms, LONGEST_FORM};
 use second::irises::{iris_record, pair_of};
 use second::report::LONGEST;
-use second::samples::{face, iris};
+use second::samples::{block, face, iris, with_block, RSA};
 use second::trees::{certificate_of_pairs, Tree};
 use second::values::IRIS_MOST_BYTES;
-use second::{number, tag_number};
+use second::{number, tag_number, Which};
 use std::arch::asm;
 use std::ops::{Deref, DerefMut};
 use std::time::Instant;
@@ -23,7 +23,7 @@ use std::time::Instant;
 #[path = "../examples/rust/prosianek.rs"]
 mod prosianek;
 use prosianek::{prosianek_check, prosianek_fascn_decode, prosianek_fascn_encode};
-use prosianek::{prosianek_lists, prosianek_report, prosianek_write};
+use prosianek::{prosianek_lists, prosianek_report, prosianek_signer, prosianek_write};
 
 const TODAY: u64 = 2026_03_01;
 const LARGEST: usize = second::CONTAINER_MAX;
@@ -31,6 +31,7 @@ const CHUID: u64 = 2;
 const FINGERS: u64 = 6;
 const FACE: u64 = 7;
 const PIVAUTH: u64 = 8;
+const IRIS: u64 = 12;
 
 // ---------------------------------------------------------------------------------------------
 // What is done with a call: it is made, counted or timed
@@ -106,6 +107,7 @@ enum Call {
     Write,
     Report,
     Lists,
+    Signer,
     Decode,
     Encode,
 }
@@ -120,6 +122,8 @@ struct Case {
     kind: u64,
     today: u64,
     input: Bytes,
+    /// The CHUID that goes with a biometric whose signer is asked for; else no bytes.
+    chuid: Bytes,
     numbers: [u64; 9],
     room: usize,
     /// The number that both have to answer.
@@ -173,7 +177,8 @@ fn room_of_lists(entries: usize) -> usize {
     5 * entries * std::mem::size_of::<u64>()
 }
 
-/// The numbers that Prosianek answers; 0 for those that the call does not have. Two counts of points stand first of the nine.
+/// The numbers that Prosianek answers; 0 for those that the call does not have. Two counts of points stand first of the nine, or
+/// which container a certificate lies in and where.
 fn prosianek(case: &Case, room: &mut [u8], meter: &mut impl Meter) -> Vec<u64> {
     let (kind, today, input, size) = (case.kind, case.today, case.input.as_ptr(), case.input.len());
     let (to, room_size) = (room.as_mut_ptr(), room.len());
@@ -196,6 +201,12 @@ fn prosianek(case: &Case, room: &mut [u8], meter: &mut impl Meter) -> Vec<u64> {
                         t, f, s,
                     )
                 })
+            }
+            Call::Signer => {
+                let (chuid, chuid_size) = (case.chuid.as_ptr(), case.chuid.len());
+                let [which, offset, ..] = &mut numbers;
+                let (w, o): (*mut u64, *mut u64) = (which, offset);
+                meter.measure(|| prosianek_signer(kind, today, chuid, chuid_size, input, size, p, t, w, o, l))
             }
             Call::Decode => meter.measure(|| prosianek_fascn_decode(input, size, &mut numbers)),
             Call::Encode => meter.measure(|| prosianek_fascn_encode(&case.numbers, to, room_size)),
@@ -228,6 +239,14 @@ fn rust(case: &Case, room: &mut [u8], meter: &mut impl Meter) -> Vec<u64> {
             numbers[..2].copy_from_slice(&counts);
             (number, place, tag_number(tag), 0, 0)
         }
+        Call::Signer => {
+            let chuid = &case.chuid[..];
+            let ((number, place, tag), which, part) = meter.measure(|| second::signer(kind, today, chuid, input));
+            let container = if which == Which::Chuid { chuid } else { input };
+            let offset = part.as_ptr() as usize - container.as_ptr() as usize;
+            numbers[..2].copy_from_slice(&[which as u64, offset as u64]);
+            (number, place, tag_number(tag), 0, part.len() as u64)
+        }
         Call::Decode => {
             let (number, decoded) = meter.measure(|| second::fascn_decode(input));
             numbers = decoded;
@@ -245,7 +264,7 @@ fn agree(case: &Case) {
     let answers = (prosianek(case, &mut one, &mut Made), rust(case, &mut other, &mut Made));
     assert!(answers.0 == answers.1 && one[..] == other[..], "{} {}: the answers differ: {:?}", case.what, case.name, answers);
     let short = if case.name == NO_ROOM && case.number == 0 { 3 } else { 0 };
-    let tag = if matches!(case.call, Call::Check | Call::Write | Call::Lists) { second::NO_TAG } else { 0 };
+    let tag = if matches!(case.call, Call::Check | Call::Write | Call::Lists | Call::Signer) { second::NO_TAG } else { 0 };
     let said = &answers.0[..4];
     assert!(said == [case.number, 0, tag, short], "{} {}: answered {:?}", case.what, case.name, said);
 }
@@ -403,6 +422,7 @@ fn container_cases(what: &str, kind: u64, container: &[u8]) -> Vec<Case> {
         kind,
         today: TODAY,
         input: Bytes::of(input),
+        chuid: Bytes::of(&[]),
         numbers: [0; 9],
         room,
         number: 0,
@@ -458,6 +478,34 @@ fn form_cases(kind: u64, container: &[u8]) -> Vec<Case> {
     forms.into_iter().flat_map(cases).filter(|case| !matches!(case.call, Call::Write)).collect()
 }
 
+/// The signer of a typical biometric of each kind, whose own block has the certificate of an RSA key, and of fingers with that in the
+/// CHUID's. The other block is the same without a certificate. The bytes are those of both containers.
+fn signer_cases() -> Vec<Case> {
+    let with = |kind: u64, certificates: &[&[u8]]| {
+        let card = Card { kind, today: TODAY, rows: values_of(kind, &sample(kind)) };
+        with_block(card, &block(certificates)).container()
+    };
+    let case = |kind: u64, what: &str, in_chuid: &[&[u8]], in_biometric: &[&[u8]]| {
+        let (chuid, biometric) = (with(CHUID, in_chuid), with(kind, in_biometric));
+        let bytes = commas((chuid.len() + biometric.len()) as u64);
+        Case {
+            what: format!("{}, certificate in {}, {} bytes", kind_of(kind).unwrap().name, what, bytes),
+            name: "signer",
+            call: Call::Signer,
+            kind,
+            today: TODAY,
+            input: Bytes::of(&biometric),
+            chuid: Bytes::of(&chuid),
+            numbers: [0; 9],
+            room: 0,
+            number: 0,
+        }
+    };
+    let mut cases: Vec<Case> = [FINGERS, FACE, IRIS].iter().map(|&kind| case(kind, "it", &[], &[RSA])).collect();
+    cases.insert(1, case(FINGERS, "the CHUID", &[RSA], &[]));
+    cases
+}
+
 fn fascn_cases() -> Vec<Case> {
     let chuid = sample(CHUID);
     let (_, fascn) = second::view(CHUID, TODAY, &chuid, 0x30);
@@ -469,6 +517,7 @@ fn fascn_cases() -> Vec<Case> {
         kind: CHUID,
         today: TODAY,
         input: Bytes::of(fascn),
+        chuid: Bytes::of(&[]),
         numbers,
         room,
         number: 0,
@@ -486,6 +535,7 @@ fn day_cases() -> Vec<Case> {
         kind: CHUID,
         today: day.replace('-', "").parse().unwrap(),
         input: Bytes::of(&[]),
+        chuid: Bytes::of(&[]),
         numbers: [0; 9],
         room: 0,
         number,
@@ -531,6 +581,7 @@ fn tables() -> Vec<(&'static str, Vec<Case>)> {
         ("From 1 KiB to 32 KiB", growth),
         ("From 500 to 16,000 items of a certificate", items),
         ("By the number of points", points),
+        ("The signer, with a CHUID and a biometric", signer_cases()),
         ("The date check, day by day", day_cases()),
     ]
 }

@@ -2,11 +2,12 @@
 //! the desk program are put into a folder, from where tests/worked-cases gives them to it.
 
 use crate::points::{by_library, by_second, Told};
+use crate::signer;
 use crate::trial::{Fault, Trial};
 use second::batch::{Answer, Call, Record};
 use second::generate::plain;
 use second::points::KIND;
-use second::Point;
+use second::{Point, Which};
 use std::collections::BTreeMap;
 use std::fs;
 
@@ -54,7 +55,11 @@ impl Names {
         if call == "points" {
             return self.points(asked, told);
         }
-        let record = if call == "lists" { self.lists(asked)? } else { self.record(call, asked)? };
+        let record = match call {
+            "lists" => self.lists(asked)?,
+            "signer" => self.signer(asked)?,
+            _ => self.record(call, asked)?,
+        };
         let answer = self.answer(call, &record, told)?;
         Ok(Case::Called(record, answer))
     }
@@ -79,6 +84,14 @@ impl Names {
         }
         let record = plain(Call::Lists, KIND, self.bytes(&asked[6..])?);
         Ok(Record { today: number(asked.first())?, lists, fill: 0xFF, ..record })
+    }
+
+    /// Two containers, with a semicolon between.
+    fn signer(&self, asked: &[&str]) -> Outcome<Record> {
+        let (today, kind) = (number(asked.first())?, number(asked.get(1))?);
+        let between = asked.iter().position(|&word| word == ";").ok_or("no second container")?;
+        let (chuid, biometric) = (self.bytes(&asked[2..between])?, self.bytes(&asked[between + 1..])?);
+        Ok(Record { today, chuid, ..plain(Call::Signer, kind, biometric) })
     }
 
     fn record(&self, call: &str, asked: &[&str]) -> Outcome<Record> {
@@ -108,10 +121,11 @@ impl Names {
             ("merged", [short, output @ ..]) => {
                 Ok(Answer { short: number(Some(short))?, ..self.with_output(answer, record.room, output)? })
             }
-            ("view", [offset, length]) => {
-                let (offset, length) = (number(Some(offset))?, number(Some(length))?);
-                let part = record.bytes.get(offset as usize..(offset + length) as usize).ok_or("no such part")?;
-                Ok(Answer { offset, length, part: part.to_vec(), ..answer })
+            ("view", [offset, length]) => with_part(answer, &record.bytes, offset, length),
+            ("signer", [which, offset, length]) => {
+                let which = number(Some(which))?;
+                let container = if which == Which::Chuid as u64 { &record.chuid } else { &record.bytes };
+                with_part(Answer { which, ..answer }, container, offset, length)
             }
             ("write", output) => self.with_output(answer, record.room, output),
             ("lists", [first, second, lists @ ..]) => {
@@ -153,6 +167,13 @@ impl Names {
             None => hex(item),
         }
     }
+}
+
+/// The answer with the part of the container that is told by its offset and its length.
+fn with_part(answer: Answer, container: &[u8], offset: &str, length: &str) -> Outcome<Answer> {
+    let (offset, length) = (number(Some(&offset))?, number(Some(&length))?);
+    let part = container.get(offset as usize..(offset + length) as usize).ok_or("no such part")?;
+    Ok(Answer { offset, length, part: part.to_vec(), ..answer })
 }
 
 fn number(word: Option<&&str>) -> Outcome<u64> {
@@ -240,7 +261,9 @@ impl Running<'_> {
                     return Err(format!("the second program answers {:?}", answer));
                 }
                 let outcome = self.trial.run(record, expected, &Fault::None);
-                outcome.map_err(|wrong| format!("the library: {}", self.trial.tell(record, wrong)))
+                outcome.map_err(|wrong| format!("the library: {}", self.trial.tell(record, wrong)))?;
+                let told = if record.call == Call::Signer { signer::difference(record, expected) } else { None };
+                told.map_or(Ok(()), Err)
             }
             Case::Points(today, container, expected) => {
                 let size = expected.2.len();

@@ -18,6 +18,7 @@ mod planted;
 mod points;
 #[path = "../../examples/rust/prosianek.rs"]
 mod prosianek;
+mod signer;
 mod trial;
 
 use trial::{call_text, Fault, Trial};
@@ -46,14 +47,23 @@ impl Comparison {
             Ok(()) => self.tally.count(record.call, expected),
             Err(wrong) => self.differs(|trial| trial.tell(record, wrong)),
         }
-        if record.call == Call::Lists {
-            self.compare_points(record);
+        match record.call {
+            Call::Lists => self.compare_points(record),
+            Call::Signer => self.compare_signer(record, expected),
+            _ => (),
         }
     }
 
     /// The list of points has to be the same on both sides, too: one as long as the first of the five lists.
     fn compare_points(&mut self, record: &Record) {
         if let Some(told) = points::difference(record.today, &record.bytes, record.lists[0]) {
+            self.differs(|_| format!("{}\n  {}", told, call_text(record)));
+        }
+    }
+
+    /// The function for Rust has to tell the same of a signer, in its own words.
+    fn compare_signer(&mut self, record: &Record, expected: &Answer) {
+        if let Some(told) = signer::difference(record, expected) {
             self.differs(|_| format!("{}\n  {}", told, call_text(record)));
         }
     }

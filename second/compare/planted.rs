@@ -2,16 +2,19 @@
 //! the byte where it was planted. So are the tags that a mistaken program would name, in calls on every fault of a container or
 //! a sheet, the places that one would give which takes every length for one in fewest bytes, and the numbers of one that judges a
 //! printed date, a facial or an iris record by another rule, or that still answers 8 to a report. So are the counts and the
-//! entries of one that takes points apart wrongly. 8 and 9 are planted on both sides too, where nothing differs.
+//! entries of one that takes points apart wrongly, and what one answers that looks for a signer elsewhere. 8 and 9 are planted on
+//! both sides too, where nothing differs.
 
 use crate::trial::{call_text, native, Fault, Sort, Stretch, Trial, Wrong, LISTS};
 use second::batch::{Answer, Call, Record};
 use second::card::{kind_of, length_at, walk};
 use second::generate::{fewest, Inputs, Rng};
 use second::points::MOST_POINTS;
-use second::{dates, faces, faults, fingers, irises, lengths, longest, points, tag_number, Point, NO_TAG};
+use second::{dates, faces, faults, fingers, irises, lengths, longest, pairs, points, tag_number, Point, NO_TAG};
 use std::collections::BTreeMap;
 use std::ops::Range;
+
+mod signer;
 
 /// So many of the made calls of each sort.
 const CALLS: usize = 300;
@@ -20,11 +23,12 @@ const CALLS: usize = 300;
 const SHOWN: usize = 5;
 
 /// Faults are planted in each of these.
-const STRETCHES: [&str; 18] = [
+const STRETCHES: [&str; 20] = [
     "number",
     "place",
     "tag",
     "short",
+    "which",
     "offset",
     "length",
     "part",
@@ -38,6 +42,7 @@ const STRETCHES: [&str; 18] = [
     "first",
     "second",
     "input",
+    "chuid",
     "guard",
 ];
 
@@ -96,7 +101,7 @@ fn faults_of_both(stretch: &Stretch) -> Vec<Planted> {
     }
 }
 
-/// The mistakes that are made in a number that is lent, each with the name of that.
+/// The mistakes that are made in a number that is lent, each with the name of that. Those about a signer are [`signer::MISTAKES`].
 const MISTAKES: [(&str, &str); 59] = [
     ("number", "16 for no date"),
     ("number", "23 for no date"),
@@ -355,8 +360,23 @@ fn mistaken_entries(record: &Record, expected: &Answer) -> Vec<Mistake> {
     out
 }
 
-/// All mistakes in a call: numbers, tags, places and offsets, counts and entries.
+/// All mistakes in a call: numbers, tags, places and offsets, counts and entries, and what is wrong with a signer.
 fn mistakes(record: &Record, expected: &Answer) -> Vec<Mistake> {
+    let mut out = match record.call {
+        Call::Signer => signer::mistakes(record, expected),
+        _ => mistakes_of_verdict(record, expected),
+    };
+    if record.call == Call::Lists {
+        out.extend(mistaken_counts(record, expected));
+        out.extend(mistaken_entries(record, expected));
+    }
+    // where a mistake makes no difference it is none
+    out.retain(|mistake| mistake.number != mistake.right);
+    out
+}
+
+/// Those in the number, the tag, the place and the offset of a call on one container.
+fn mistakes_of_verdict(record: &Record, expected: &Answer) -> Vec<Mistake> {
     let mut out = Vec::new();
     let mut add = |name, how, number, right| out.push(Mistake { name, how, entry: 0, number, right });
     for (how, number) in mistaken_numbers(record, expected) {
@@ -368,12 +388,6 @@ fn mistakes(record: &Record, expected: &Answer) -> Vec<Mistake> {
     for (name, place) in mistaken_places(record, expected) {
         add(name, "as in fewest bytes", place, if name == "place" { expected.place } else { expected.offset });
     }
-    if record.call == Call::Lists {
-        out.extend(mistaken_counts(record, expected));
-        out.extend(mistaken_entries(record, expected));
-    }
-    // where a mistake makes no difference it is none
-    out.retain(|mistake| mistake.number != mistake.right);
     out
 }
 
@@ -468,16 +482,17 @@ impl Trying {
             println!("  {}: {}", what, texts.join(" "));
         }
         let mistaken = |name, how| self.planted.get(&(how, name)).copied().unwrap_or_default();
-        let numbers = ["number", "short", "tag", "place", "offset", "first", "second"];
+        let mistakes = [&MISTAKES[..], &signer::MISTAKES].concat();
+        let numbers = ["number", "short", "tag", "place", "which", "offset", "length", "first", "second"];
         for which in numbers.into_iter().chain(LISTS) {
-            let here = MISTAKES.iter().filter(|(name, _)| *name == which);
+            let here = mistakes.iter().filter(|(name, _)| *name == which);
             let texts: Vec<String> = here.map(|&(name, how)| format!("{}: {}", how, mistaken(name, how))).collect();
             println!("  another {}, {}", which, texts.join(", "));
         }
         println!("{} planted faults, {} unseen", self.planted.values().sum::<usize>(), self.unseen);
         self.unseen == 0
             && STRETCHES.iter().all(|&name| self.planted.keys().any(|planted| planted.1 == name))
-            && MISTAKES.iter().all(|&(name, how)| mistaken(name, how) > 0)
+            && mistakes.iter().all(|&(name, how)| mistaken(name, how) > 0)
     }
 }
 
@@ -492,6 +507,7 @@ pub fn all_seen(seed: u64) -> bool {
         faults::records,
         lengths::records,
         longest::records,
+        pairs::records,
     ];
     let with_faults: Vec<Record> = edges.iter().flat_map(|records| records()).collect();
     let made = calls(seed);
@@ -504,8 +520,8 @@ pub fn all_seen(seed: u64) -> bool {
         }
     }
     println!(
-        "faults planted in {} calls of every sort, and mistakes in {} on dates, faces, fingers, irises, faults, longer forms \
-         and long reports, one at a time:",
+        "faults planted in {} calls of every sort, and mistakes in {} on dates, faces, fingers, irises, faults, longer forms, \
+         long reports and signers, one at a time:",
         made.len(),
         with_faults.len()
     );

@@ -32,7 +32,8 @@ pub fn by_library(today: u64, container: &[u8], size: usize) -> Told {
     (verdict, counts, list.into_iter().map(point).collect())
 }
 
-fn one_or_two_bytes(tag: u64) -> u16 {
+/// The tag that the library names, as the second program has it.
+pub fn one_or_two_bytes(tag: u64) -> u16 {
     u16::try_from(tag).unwrap_or_else(|_| panic!("the library names the tag {:X}", tag))
 }
 

@@ -4,17 +4,18 @@
 //! guards, the same input, and in what is lent the expected answer. Before the call no lent byte is the one that is
 //! expected there, and none is zero, nor is one in the guards: so a byte that is not written shows, and one too many.
 
-use crate::prosianek::*;
+use crate::prosianek::{prosianek_check, prosianek_fascn_decode, prosianek_fascn_encode, prosianek_lists};
+use crate::prosianek::{prosianek_report, prosianek_signer, prosianek_view, prosianek_write};
 use second::batch::{Answer, Call, Record, BYTES_MAX, LIST_MAX, ROOM_MAX};
 use second::generate::Rng;
-use second::{number, tag_number};
+use second::{number, tag_number, Which};
 use std::ops::Range;
 
 /// A guard has this many bytes, or a few more.
 const GUARD: usize = 64;
 
-/// Enough for the largest input with the largest room or the five longest lists, and for a dozen guards and numbers.
-const MEMORY: usize = BYTES_MAX + ROOM_MAX + 5 * 8 * LIST_MAX + 20 * GUARD;
+/// Enough for the two largest inputs with the largest room or the five longest lists, and for a dozen guards and numbers.
+const MEMORY: usize = 2 * BYTES_MAX + ROOM_MAX + 5 * 8 * LIST_MAX + 20 * GUARD;
 
 /// The five lists of numbers that are filled with points, in their order.
 pub const LISTS: [&str; 5] = ["types", "xs", "ys", "angles", "qualities"];
@@ -88,17 +89,19 @@ fn lent(call: Call, expected: &Answer) -> Vec<(&'static str, Vec<u8>)> {
     let room = || ("room", expected.room.clone());
     let place = || ("place", native(&[expected.place]));
     let tag = || ("tag", native(&[tag_number(expected.tag)]));
+    let offset = || ("offset", native(&[expected.offset]));
     let length = || ("length", native(&[expected.length]));
     match call {
         Call::Check => vec![room(), place(), tag(), ("short", native(&[expected.short])), length()],
         Call::Write => vec![room(), place(), tag(), length()],
-        Call::View => vec![place(), tag(), ("offset", native(&[expected.offset])), length()],
+        Call::View => vec![place(), tag(), offset(), length()],
         Call::Report => vec![room(), length()],
         Call::Lists => {
             let lists = LISTS.iter().zip(&expected.lists).map(|(&name, list)| (name, native(list)));
             let [first, second] = expected.counts;
             lists.chain([place(), tag(), ("first", native(&[first])), ("second", native(&[second]))]).collect()
         }
+        Call::Signer => vec![place(), tag(), ("which", native(&[expected.which])), offset(), length()],
         Call::FascnDecode => vec![("numbers", native(&expected.numbers))],
         Call::FascnEncode => vec![room()],
     }
@@ -160,10 +163,13 @@ impl Trial {
             Call::FascnEncode => self.put("input", Sort::Input, 0, &native(&record.numbers())),
             _ => self.put("input", Sort::Input, odd, &record.bytes),
         }
+        if record.call == Call::Signer {
+            self.put("chuid", Sort::Input, record.chuid.len() % 8, &record.chuid);
+        }
         for (name, bytes) in lent(record.call, expected) {
             self.put(name, Sort::Lent, if name == "room" { odd } else { 0 }, &bytes);
         }
-        if record.call == Call::View {
+        if matches!(record.call, Call::View | Call::Signer) {
             // last: what is wrong with the offset, the length or the input is told as such
             self.put("part", Sort::Lent, 0, &expected.part);
         }
@@ -270,6 +276,12 @@ impl Trial {
                         second,
                     )
                 }
+                Call::Signer => {
+                    let (chuid, chuid_size) = (at("chuid") as *const u8, record.chuid.len());
+                    let (place, tag, which) = (lent("place"), lent("tag"), lent("which"));
+                    let (offset, length) = (lent("offset"), lent("length"));
+                    prosianek_signer(kind, today, chuid, chuid_size, input, size, place, tag, which, offset, length)
+                }
                 Call::FascnDecode => prosianek_fascn_decode(input, size, at("numbers") as *mut [u64; 9]),
                 Call::FascnEncode => prosianek_fascn_encode(input as *const [u64; 9], at("room"), room),
             }
@@ -285,13 +297,26 @@ impl Trial {
         numbers(&self.memory.0[self.range(name)])[0]
     }
 
-    /// Puts the part of the input that a view's answer names where the expected one is in the image.
+    fn has(&self, name: &str) -> bool {
+        self.stretches.iter().any(|stretch| stretch.name == name)
+    }
+
+    /// The input that an answer's part lies in: of two the one that it names.
+    fn named_input(&self) -> &'static str {
+        if self.has("which") && self.number_at("which") == Which::Chuid as u64 {
+            "chuid"
+        } else {
+            "input"
+        }
+    }
+
+    /// Puts the part of the input that the answer names where the expected one is in the image.
     fn fetch_part(&mut self) {
-        if self.stretches.iter().all(|stretch| stretch.name != "part") {
+        if !self.has("part") {
             return;
         }
         let (offset, length) = (self.number_at("offset") as usize, self.number_at("length") as usize);
-        let (input, to) = (self.range("input"), self.range("part"));
+        let (input, to) = (self.range(self.named_input()), self.range("part"));
         let end = offset.checked_add(length).filter(|&end| end <= input.len() && length == to.len());
         if let Some(end) = end {
             self.memory.0.copy_within(input.start + offset..input.start + end, to.start);
@@ -410,6 +435,7 @@ fn decimal(numbers: &[u64]) -> String {
 pub fn call_text(record: &Record) -> String {
     let lent = match record.call {
         Call::Lists => format!("lists {:?}", record.lists),
+        Call::Signer => format!("chuid {}", hex(&record.chuid)),
         _ => format!("room {}", record.room),
     };
     format!(

@@ -1,7 +1,7 @@
 //! The calls of a batch, what is answered to them, and how often each number is.
 
 use crate::card::{self, Checked};
-use crate::{number, points, report, values};
+use crate::{number, points, report, signer, values, Which};
 use std::collections::BTreeMap;
 use std::fmt;
 
@@ -12,13 +12,22 @@ pub enum Call {
     View,
     Report,
     Lists,
+    Signer,
     FascnDecode,
     FascnEncode,
 }
 
 impl Call {
-    pub const ALL: [Call; 7] =
-        [Call::Check, Call::Write, Call::View, Call::Report, Call::Lists, Call::FascnDecode, Call::FascnEncode];
+    pub const ALL: [Call; 8] = [
+        Call::Check,
+        Call::Write,
+        Call::View,
+        Call::Report,
+        Call::Lists,
+        Call::Signer,
+        Call::FascnDecode,
+        Call::FascnEncode,
+    ];
 
     pub fn name(self) -> &'static str {
         match self {
@@ -27,6 +36,7 @@ impl Call {
             Call::View => "view",
             Call::Report => "report",
             Call::Lists => "lists",
+            Call::Signer => "signer",
             Call::FascnDecode => "decode",
             Call::FascnEncode => "encode",
         }
@@ -53,8 +63,10 @@ pub struct Record {
     pub lists: [usize; 5],
     /// What the room or the lists hold before the second program's call, in each byte.
     pub fill: u8,
-    /// The container, the sheet or the FASC-N; nine numbers of eight bytes for an encoding.
+    /// The container, the sheet or the FASC-N; nine numbers of eight bytes for an encoding; the biometric whose signer is asked for.
     pub bytes: Vec<u8>,
+    /// The CHUID that goes with that biometric. No other call has a second container: there it is empty.
+    pub chuid: Vec<u8>,
 }
 
 /// All that a call answers; 0 or nothing for what it does not answer.
@@ -66,11 +78,13 @@ pub struct Answer {
     pub tag: Option<u16>,
     /// A check's 3 for a room that is too short, beside a verdict of 0.
     pub short: u64,
-    /// Where a view's part starts in the container.
+    /// The container that a certificate lies in or a refusal is about, as a number: 1 the CHUID, 2 the biometric.
+    pub which: u64,
+    /// Where the part starts in the container: that of a view, or a certificate in the one that is named.
     pub offset: u64,
-    /// The length of what was written into the room, or of a view's part.
+    /// The length of what was written into the room, or of the part.
     pub length: u64,
-    /// The bytes of a view's part.
+    /// The bytes of the part.
     pub part: Vec<u8>,
     /// The nine numbers of a FASC-N.
     pub numbers: [u64; 9],
@@ -107,9 +121,7 @@ impl Record {
             }
             Call::View => {
                 let ((number, place, tag), part) = card::view(kind, today, bytes, self.element);
-                let offset = (part.as_ptr() as usize - bytes.as_ptr() as usize) as u64;
-                let (length, part) = (part.len() as u64, part.to_vec());
-                Answer { number, place, tag, offset, length, part, ..Answer::default() }
+                Answer { number, place, tag, ..part_of(bytes, part) }
             }
             Call::Report => {
                 let (number, length) = report::report(kind, today, bytes, &mut room);
@@ -122,6 +134,13 @@ impl Record {
                 let ((number, place, tag), counts) = points::lists(today, bytes, [types, xs, ys, angles, qualities]);
                 Answer { number, place, tag, counts, lists, ..Answer::default() }
             }
+            Call::Signer => {
+                let ((number, place, tag), which, part) = signer::signer(kind, today, &self.chuid, bytes);
+                // a refusal's part is the biometric's, whichever container it is about
+                let in_chuid = number == number::DONE && which == Which::Chuid;
+                let container = if in_chuid { &self.chuid } else { bytes };
+                Answer { number, place, tag, which: which as u64, ..part_of(container, part) }
+            }
             Call::FascnDecode => {
                 let (number, numbers) = values::fascn_decode(bytes);
                 Answer { number, numbers, ..Answer::default() }
@@ -132,6 +151,12 @@ impl Record {
             }
         }
     }
+}
+
+/// A part of a container, with its offset there and its length.
+fn part_of(container: &[u8], part: &[u8]) -> Answer {
+    let offset = (part.as_ptr() as usize - container.as_ptr() as usize) as u64;
+    Answer { offset, length: part.len() as u64, part: part.to_vec(), ..Answer::default() }
 }
 
 /// How often each number was answered, by call. A check's 3 is counted beside its 0.

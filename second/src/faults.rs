@@ -37,6 +37,11 @@ pub fn records() -> Vec<Record> {
     out
 }
 
+/// The containers of a kind with a fault of a tag or a value.
+pub fn containers(kind: u64) -> Vec<Vec<u8>> {
+    Whole::in_fewest_bytes(kind).faults()
+}
+
 fn tag_bytes(tag: u16) -> Vec<u8> {
     tag.to_be_bytes()[usize::from(tag <= 0xFF)..].to_vec()
 }

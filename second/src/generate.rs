@@ -3,7 +3,7 @@
 use crate::batch::{Call, Record, BYTES_MAX, ROOM_MAX};
 use crate::card::{self, all_kinds, Rule, LAST_KIND, ROWS_MAX};
 use crate::values::{self, fascn_encode, fascn_pack, fascn_values, is_date, Format, FACE, FINGERS, IRIS};
-use crate::{dates, faces, faults, fingers, irises, lengths, longest, trees};
+use crate::{dates, faces, faults, fingers, irises, lengths, longest, pairs, trees};
 use crate::{CONTAINER_MAX, NO_TAG, REPORT_MAX, SHEET_ROOM};
 
 /// splitmix64.
@@ -182,7 +182,7 @@ impl Card {
 
 const LIMITS: [u64; 9] = [10_000, 10_000, 1_000_000, 10, 10, 10_000_000_000, 10, 10_000, 10];
 
-fn fascn_numbers(rng: &mut Rng) -> [u64; 9] {
+pub fn fascn_numbers(rng: &mut Rng) -> [u64; 9] {
     let mut numbers = [0; 9];
     for (number, &limit) in numbers.iter_mut().zip(&LIMITS) {
         *number = match rng.below(8) {
@@ -583,7 +583,7 @@ fn fascn_twin(rng: &mut Rng, bytes: &[u8]) -> Vec<u8> {
 // ---------------------------------------------------------------------------------------------
 // Damage to values
 
-fn flip_bit(rng: &mut Rng, bytes: &mut [u8]) {
+pub fn flip_bit(rng: &mut Rng, bytes: &mut [u8]) {
     if !bytes.is_empty() {
         let at = rng.below(bytes.len() as u64 * 8) as usize;
         bytes[at / 8] ^= 0x80 >> (at % 8);
@@ -1514,6 +1514,7 @@ fn random_record(rng: &mut Rng) -> Record {
         90..=139 => fascn_encode_record(rng),
         140..=319 => write_record(rng),
         320..=419 => fingers::record(rng),
+        420..=529 => pairs::record(rng),
         _ => container_record(rng),
     };
     if matches!(record.call, Call::FascnDecode | Call::FascnEncode) {
@@ -1550,14 +1551,21 @@ pub fn any_container(rng: &mut Rng, kind: u64) -> (Card, Vec<u8>) {
         let length = edge_length(rng);
         card = lengthened(rng, card, length);
     }
+    let bytes = good_or_damaged(rng, &mut card, &forms);
+    (card, bytes)
+}
+
+/// The container of a card in these forms, mostly with damage to the card's values, to the form or to the bytes.
+pub fn good_or_damaged(rng: &mut Rng, card: &mut Card, forms: &Forms) -> Vec<u8> {
+    let kind = card.kind;
     let plan = rng.below(20);
     if (4..=11).contains(&plan) {
-        damage_value(rng, &mut card);
+        damage_value(rng, card);
         while rng.one_in(8) {
-            damage_value(rng, &mut card);
+            damage_value(rng, card);
         }
     }
-    let mut loose = card.loose(&forms);
+    let mut loose = card.loose(forms);
     if (11..=16).contains(&plan) {
         damage_form(rng, &mut loose, kind);
         while rng.one_in(4) {
@@ -1572,7 +1580,7 @@ pub fn any_container(rng: &mut Rng, kind: u64) -> (Card, Vec<u8>) {
         }
     }
     bytes.truncate(BYTES_MAX);
-    (card, bytes)
+    bytes
 }
 
 fn container_record(rng: &mut Rng) -> Record {
@@ -1812,7 +1820,8 @@ pub fn certificate_card(kind: u64, certificate: Vec<u8>, extra: Option<usize>) -
 
 /// A call on the example's day, without a room, or with empty lists.
 pub fn plain(call: Call, kind: u64, bytes: Vec<u8>) -> Record {
-    Record { call, kind, today: EXAMPLE_DAY, element: 0, room: 0, lists: [0; 5], fill: 0, bytes }
+    let chuid = Vec::new();
+    Record { call, kind, today: EXAMPLE_DAY, element: 0, room: 0, lists: [0; 5], fill: 0, bytes, chuid }
 }
 
 /// Certificates at their edges, each kind in turn: of 70 itself, of the length of 72, and of the whole container.
@@ -1936,6 +1945,7 @@ fn fixed_records() -> Vec<Record> {
     out.extend(faults::records());
     out.extend(lengths::records());
     out.extend(longest::records());
+    out.extend(pairs::records());
     out
 }
 
@@ -1946,7 +1956,8 @@ pub fn small_in_longest_forms() -> Vec<u8> {
 }
 
 /// Every container that differs from a small conforming one in one byte, and itself: checks, with a room that is as long as the
-/// sheet of that one. And calls that fill lists, with as many entries as it has points.
+/// sheet of that one. And calls that fill lists, with as many entries as it has points, and such as ask for a signer, with either
+/// container changed.
 pub fn sweep<F: FnMut(&Record)>(mut take: F) {
     let small = all_kinds().map(|kind| (kind, small(kind)));
     for (kind, container) in small.chain([(5, small_in_longest_forms())]) {
@@ -1954,16 +1965,25 @@ pub fn sweep<F: FnMut(&Record)>(mut take: F) {
         take_each_byte(Record { room, fill: 0xA5, ..plain(Call::Check, kind, container) }, &mut take);
     }
     take_each_byte(fingers::small_record(), &mut take);
+    for pair in pairs::small_records() {
+        take_each_byte_of(pair.clone(), |record| &mut record.chuid, &mut take);
+        take_each_byte(pair, &mut take);
+    }
 }
 
 /// The call with each value of each byte that it is given.
-fn take_each_byte<F: FnMut(&Record)>(mut record: Record, take: &mut F) {
-    for at in 0..record.bytes.len() {
-        let original = record.bytes[at];
+fn take_each_byte<F: FnMut(&Record)>(record: Record, take: &mut F) {
+    take_each_byte_of(record, |record| &mut record.bytes, take);
+}
+
+/// The call with each value of each byte of one of its inputs.
+fn take_each_byte_of<F: FnMut(&Record)>(mut record: Record, input: fn(&mut Record) -> &mut Vec<u8>, take: &mut F) {
+    for at in 0..input(&mut record).len() {
+        let original = input(&mut record)[at];
         for value in 0..=255 {
-            record.bytes[at] = value;
+            input(&mut record)[at] = value;
             take(&record);
         }
-        record.bytes[at] = original;
+        input(&mut record)[at] = original;
     }
 }

@@ -1,10 +1,11 @@
-//! The independent second program: it checks PIV data containers, gives their value sheets, writes, views and reports them, and
-//! fills lists with the points of fingers.
+//! The independent second program: it checks PIV data containers, gives their value sheets, writes, views and reports them, fills
+//! lists with the points of fingers, and finds the certificate of who signed a biometric.
 //!
 //! It is written from the scope page (01), the change requests (02) and the list of decided points
 //! alone, and serves as the partner that the proved program is compared with, and as the speed baseline.
 
 pub mod batch;
+pub mod blocks;
 pub mod card;
 pub mod dates;
 pub mod der;
@@ -16,16 +17,19 @@ pub mod irises;
 pub mod lengths;
 pub mod longest;
 pub mod named;
+pub mod pairs;
 pub mod points;
 pub mod records;
 pub mod report;
 pub mod samples;
+pub mod signer;
 pub mod trees;
 pub mod values;
 
 pub use card::{check, view, write, Checked, Verdict};
 pub use points::{lists, points, Point};
 pub use report::{desk, report};
+pub use signer::{signer, Which};
 pub use values::{fascn_decode, fascn_encode};
 
 /// The numbers of 01's table.
@@ -57,9 +61,16 @@ pub mod number {
     pub const TOO_DEEP: u64 = 25;
     pub const FACE_RECORD: u64 = 26;
     pub const IRIS_RECORD: u64 = 27;
+    pub const FASCN_DIFFER: u64 = 28;
+    pub const BIOMETRIC_BLOCK: u64 = 29;
+    pub const CHUID_BLOCK: u64 = 30;
+    pub const NEITHER_HOLDS: u64 = 31;
+
+    /// The last of them that a check answers: those behind it are of the two containers that a signer is found with.
+    pub const LAST_OF_CHECK: u64 = IRIS_RECORD;
 
     /// The last of them.
-    pub const LAST: u64 = IRIS_RECORD;
+    pub const LAST: u64 = NEITHER_HOLDS;
 
     /// The two below the last that no call answers.
     pub const UNUSED: [u64; 2] = [8, 9];

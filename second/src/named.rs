@@ -16,6 +16,7 @@ mod irises;
 mod lengths;
 mod longest;
 mod points;
+mod signer;
 mod tags;
 
 /// A call and its answer.
@@ -44,6 +45,7 @@ pub fn all() -> Vec<Group> {
         reports(),
         longest::all(),
         points::all(),
+        signer::all(),
     ]
     .concat()
 }

@@ -1,11 +1,15 @@
 //! The samples: for each kind a container that conforms on 1 March 2026, and one that breaks a rule in an instructive way. One more
 //! conforms with lengths in longer forms.
 
-use crate::faces::{facial, Image};
+use crate::blocks::{signed_data, IDENTIFIER, INTEGER, SET};
+use crate::faces::{self, facial, Image};
+use crate::fingers::minutiae_record;
 use crate::generate::{Card, Form, Forms, EXAMPLE_DAY, EXAMPLE_FASCN};
-use crate::irises::{iris_record, with_flag_and_eyes, Representation};
-use crate::values::{Format, FACE, FINGERS, IRIS};
-use crate::{report, trees, REPORT_MAX};
+use crate::irises::{self, iris_record, with_flag_and_eyes, Representation};
+use crate::signer::CHUID_KIND;
+use crate::trees::{self, Tree};
+use crate::values::{signature_of, Format, CERTIFICATE_LEVELS, FACE, FINGERS, HEADER_FASCN, IRIS};
+use crate::{report, REPORT_MAX};
 
 pub struct Sample {
     pub kind: u64,
@@ -98,6 +102,37 @@ pub fn iris(quality: u8, record: &[u8], signature: usize) -> Card {
     biometric(12, &IRIS, quality, record, &vec![0x30; signature])
 }
 
+/// A biometric of this kind with its least record and this signature block.
+pub fn signed(kind: u64, block: &[u8]) -> Card {
+    match kind {
+        6 => biometric(6, &FINGERS, 100, &minutiae_record([&[], &[]]), block),
+        7 => biometric(7, &FACE, 100, &faces::least(), block),
+        _ => biometric(12, &IRIS, 100, &irises::least(), block),
+    }
+}
+
+/// The card with this signature block: a CHUID's 3E, or the end of a biometric's BC, whose length follows.
+pub fn with_block(mut card: Card, block: &[u8]) -> Card {
+    if card.kind == CHUID_KIND {
+        card.rows[7] = Some(block.to_vec());
+    } else if let Some(value) = &mut card.rows[0] {
+        value.truncate(value.len() - signature_of(value).len());
+        value[6..8].copy_from_slice(&(block.len() as u16).to_be_bytes());
+        value.extend(block);
+    }
+    card
+}
+
+/// The card with this FASC-N: a CHUID's 30, or that in the header of a biometric.
+pub fn with_fascn(mut card: Card, fascn: &[u8]) -> Card {
+    if card.kind == CHUID_KIND {
+        card.rows[1] = Some(fascn.to_vec());
+    } else if let Some(value) = &mut card.rows[0] {
+        value[HEADER_FASCN].copy_from_slice(fascn);
+    }
+    card
+}
+
 /// A drawn face of 240 by 320 pixels in JPEG 2000, made once with opj_compress.
 pub const PICTURE: &[u8] = include_bytes!("pictures/face.jp2");
 
@@ -146,6 +181,46 @@ pub const COMPRESSED: &[u8] = include_bytes!("certificates/rsa2048.der.gz");
 
 /// A certificate of a key on the curve P-256, made likewise.
 pub const P256: &[u8] = include_bytes!("certificates/p256.der");
+
+/// A signature block as a card has it, with these certificates; without any the field is not there. The digest and the signature are
+/// invented, and so nothing is signed by it.
+pub fn block(certificates: &[&[u8]]) -> Vec<u8> {
+    let identifier = |bytes: &[u8]| Tree::primitive(IDENTIFIER, bytes);
+    let algorithm = |bytes: &[u8]| Tree::sequence(vec![identifier(bytes), Tree::empty()]);
+    let attribute = |bytes: &[u8], value| Tree::sequence(vec![identifier(bytes), Tree::constructed(SET, vec![value])]);
+    let name = Tree::sequence(vec![identifier(&[0x55, 4, 3]), Tree::primitive(0x0C, b"Example Signer")]);
+    let issuer = Tree::sequence(vec![Tree::constructed(SET, vec![name])]);
+    let signed_attributes = vec![
+        attribute(&CONTENT_TYPE, identifier(&BIOMETRIC_OBJECT)),
+        attribute(&MESSAGE_DIGEST, Tree::primitive(4, &[0xD1; 32])),
+    ];
+    let signer = Tree::sequence(vec![
+        Tree::primitive(INTEGER, &[1]),
+        Tree::sequence(vec![issuer, Tree::primitive(INTEGER, &[7; 16])]),
+        algorithm(&SHA_256),
+        Tree::constructed(0xA0, signed_attributes),
+        algorithm(&RSA_WITH_SHA_256),
+        Tree::primitive(4, &[0x51; 256]),
+    ]);
+    let mut parts = vec![
+        Tree::primitive(INTEGER, &[3]),
+        Tree::constructed(SET, vec![algorithm(&SHA_256)]),
+        Tree::sequence(vec![identifier(&BIOMETRIC_OBJECT)]),
+        Tree::constructed(SET, vec![signer]),
+    ];
+    if !certificates.is_empty() {
+        let read = |bytes: &&[u8]| Tree::of(bytes, CERTIFICATE_LEVELS).expect("a certificate that conforms");
+        parts.insert(3, Tree::constructed(0xA0, certificates.iter().map(read).collect()));
+    }
+    signed_data(parts).bytes()
+}
+
+/// Identifiers in that block: sha256, sha256WithRSAEncryption, contentType, messageDigest, and what is signed, 2.16.840.1.101.3.6.2.
+const SHA_256: [u8; 9] = [0x60, 0x86, 0x48, 0x01, 0x65, 3, 4, 2, 1];
+const RSA_WITH_SHA_256: [u8; 9] = [0x2A, 0x86, 0x48, 0x86, 0xF7, 0x0D, 1, 1, 11];
+const CONTENT_TYPE: [u8; 9] = [0x2A, 0x86, 0x48, 0x86, 0xF7, 0x0D, 1, 9, 3];
+const MESSAGE_DIGEST: [u8; 9] = [0x2A, 0x86, 0x48, 0x86, 0xF7, 0x0D, 1, 9, 4];
+const BIOMETRIC_OBJECT: [u8; 8] = [0x60, 0x86, 0x48, 0x01, 0x65, 3, 6, 2];
 
 /// A card with a certificate: 70, 71, and 72 if it is there.
 pub fn certificate(kind: u64, certificate: &[u8], information: u8, extra: Option<&[u8]>) -> Card {

@@ -48,6 +48,11 @@ impl Tree {
         Tree { tag, form: Form::Fewest, delta: 0, body, rest: Vec::new() }
     }
 
+    /// The item with another tag, and with the same content: its parts stay parts.
+    pub fn tagged(self, tag: u8) -> Tree {
+        Tree { tag, ..self }
+    }
+
     /// The item inside so many SEQUENCEs of one part.
     pub fn inside(self, sequences: usize) -> Tree {
         (0..sequences).fold(self, |tree, _| Tree::sequence(vec![tree]))
@@ -83,6 +88,14 @@ impl Tree {
         }
     }
 
+    /// The parts, to be changed; none of an item that is not opened.
+    pub fn parts_mut(&mut self) -> Option<&mut Vec<Tree>> {
+        match &mut self.body {
+            Body::Bytes(_) => None,
+            Body::Parts(parts) => Some(parts),
+        }
+    }
+
     /// How many items it is: itself and all inside.
     pub fn count(&self) -> usize {
         1 + self.parts().iter().map(Tree::count).sum::<usize>()
@@ -94,7 +107,7 @@ impl Tree {
     }
 
     /// The item with this number in byte order, from 0, and its level if this tree's own is `level`.
-    fn item(&mut self, number: usize, level: usize) -> (&mut Tree, usize) {
+    pub fn item(&mut self, number: usize, level: usize) -> (&mut Tree, usize) {
         if number == 0 {
             return (self, level);
         }
@@ -121,6 +134,25 @@ impl Tree {
             tree.bytes()
         };
         (needed + 1..=4).map(longer).collect()
+    }
+
+    /// The tree with a length of one item, by its number, that is not definite, and with the end that would go with it.
+    pub fn with_indefinite_length(&self, number: usize) -> Tree {
+        let mut tree = self.clone();
+        tree.item(number, 1).0.make_indefinite();
+        tree
+    }
+
+    /// The tree with a length of one item, by its number, that says so much more than there is.
+    pub fn with_other_length(&self, number: usize, more: i64) -> Tree {
+        let mut tree = self.clone();
+        tree.item(number, 1).0.delta = more;
+        tree
+    }
+
+    fn make_indefinite(&mut self) {
+        self.form = Form::Raw(0x80);
+        self.rest = vec![0, 0];
     }
 }
 
@@ -172,7 +204,7 @@ fn of_size(rng: &mut Rng, sizes: &[usize]) -> Vec<u8> {
     certificate_of(rng, size).unwrap_or_else(|| panic!("no certificate has {} bytes", size))
 }
 
-fn primitive_tag(rng: &mut Rng) -> u8 {
+pub fn primitive_tag(rng: &mut Rng) -> u8 {
     const USUAL: [u8; 16] =
         [0x01, 0x02, 0x03, 0x04, 0x05, 0x06, 0x0C, 0x13, 0x17, 0x18, 0x80, 0x82, 0x00, 0x10, 0x1E, 0xDE];
     let any = rng.byte() & !CONSTRUCTED;
@@ -193,7 +225,7 @@ fn constructed_tag(rng: &mut Rng) -> u8 {
 }
 
 /// An item of any shape with at most so many levels.
-fn any_item(rng: &mut Rng, levels: usize) -> Tree {
+pub fn any_item(rng: &mut Rng, levels: usize) -> Tree {
     if levels > 1 && rng.one_in(2) {
         let count = rng.pick(&[0, 1, 1, 2, 3]);
         Tree::constructed(constructed_tag(rng), (0..count).map(|_| any_item(rng, levels - 1)).collect())
@@ -360,17 +392,17 @@ pub fn damage(rng: &mut Rng, value: &mut Vec<u8>) {
 fn damage_tree(rng: &mut Rng, tree: &mut Tree) {
     let number = rng.size(0, tree.count() - 1);
     match rng.below(16) {
-        0..=4 => sink(rng, tree, number),
+        0..=4 => sink(rng, tree, number, CERTIFICATE_LEVELS),
         5 | 6 => damage_outermost(rng, tree),
         7 => tree.tag = rng.pick(&[SEQUENCE, 0x31, 0x10, 0x20, 0x24, 0x70, 0xB0, 0xF0, 0x3F, 0x00]),
         _ => damage_item(rng, tree.item(number, 1).0),
     }
 }
 
-/// Puts an item so deep that the last level inside it is one at the border.
-fn sink(rng: &mut Rng, tree: &mut Tree, number: usize) {
+/// Puts an item so deep that the last level inside it is one at the border of so many levels.
+pub fn sink(rng: &mut Rng, tree: &mut Tree, number: usize, levels: usize) {
     let (item, level) = tree.item(number, 1);
-    let target = CERTIFICATE_LEVELS + rng.pick(&[0, 1, 1, 1, 2]);
+    let target = levels + rng.pick(&[0, 1, 1, 1, 2]);
     if rng.one_in(4) {
         // something is wrong with the deep item too
         damage_item(rng, item);
@@ -397,7 +429,7 @@ fn damage_outermost(rng: &mut Rng, tree: &mut Tree) {
 }
 
 /// Damages the tag, the length or the end of an item.
-fn damage_item(rng: &mut Rng, item: &mut Tree) {
+pub fn damage_item(rng: &mut Rng, item: &mut Tree) {
     match rng.below(10) {
         0 => item.tag |= NUMBER_31,
         1 => item.tag = rng.pick(&[0x1F, 0x3F, 0x5F, 0x7F, 0x9F, 0xBF, 0xDF, 0xFF, 0x1E, 0x3E]),
@@ -405,11 +437,7 @@ fn damage_item(rng: &mut Rng, item: &mut Tree) {
         2 => item.tag ^= CONSTRUCTED,
         3 => item.form = Form::Long(fewest(item.content().len()) + rng.size(1, 2)),
         4 => item.form = any_form(rng),
-        5 => {
-            // a length that is not definite, and the end that would go with it
-            item.form = Form::Raw(0x80);
-            item.rest = vec![0, 0];
-        }
+        5 => item.make_indefinite(),
         6 | 7 => item.delta = any_delta(rng),
         8 => {
             // half an item behind the last part

@@ -370,6 +370,11 @@ pub fn biometric(value: &[u8], format: &Format) -> u64 {
     }
 }
 
+/// The signature block in a value of BC that conforms: it stands behind the header and the data, up to the end.
+pub fn signature_of(value: &[u8]) -> &[u8] {
+    &value[value.len() - usize::from(two_at(value, 6))..]
+}
+
 /// A minutiae record of two views that fills the data part.
 fn is_minutiae(record: &[u8]) -> bool {
     if record.len() < MINUTIAE_HEADER_BYTES {

@@ -12,23 +12,25 @@ fn batch(seed: u64, count: usize) -> Vec<Record> {
 
 #[test]
 fn batches_are_fixed() {
-    assert!(batch(7, 70_000) == batch(7, 70_000));
-    assert!(batch(7, 70_000) != batch(8, 70_000));
-    assert!(batch(7, 70_000).starts_with(&batch(7, 65_000)));
+    assert!(batch(7, 85_000) == batch(7, 85_000));
+    assert!(batch(7, 85_000) != batch(8, 70_000));
+    assert!(batch(7, 85_000).starts_with(&batch(7, 80_000)));
 }
 
 #[test]
 fn records_keep_to_the_limits() {
-    for record in batch(9, 80_000) {
+    for record in batch(9, 95_000) {
         assert!(record.room <= ROOM_MAX && record.bytes.len() <= BYTES_MAX);
         assert!(record.element == 0 || record.call == Call::View);
-        assert!((record.room == 0 && record.fill == 0) || !matches!(record.call, Call::View | Call::FascnDecode));
+        let without_room = matches!(record.call, Call::View | Call::Signer | Call::FascnDecode);
+        assert!((record.room == 0 && record.fill == 0) || !without_room);
         if record.call == Call::Lists {
             assert!(record.lists.iter().all(|&size| size <= LIST_MAX));
             assert_eq!((record.kind, record.room), (points::KIND, 0));
         } else {
             assert_eq!(record.lists, [0; 5]);
         }
+        assert!(record.chuid.len() <= BYTES_MAX && (record.chuid.is_empty() || record.call == Call::Signer));
         if record.call == Call::FascnEncode {
             assert_eq!(record.bytes.len(), 72);
         }
@@ -38,7 +40,7 @@ fn records_keep_to_the_limits() {
 #[test]
 fn every_number_occurs() {
     let mut tally = Tally::default();
-    for record in batch(4, 65_000) {
+    for record in batch(4, 80_000) {
         tally.count(record.call, &record.answer());
     }
     assert_eq!(tally.never(), []);
@@ -60,7 +62,7 @@ fn rooms_of_checks() {
             edges.extend((0..here.len()).filter(|&edge| here[edge]));
         }
     }
-    for number in [0, 1, 2, 4].into_iter().chain(10..=number::LAST) {
+    for number in [0, 1, 2, 4].into_iter().chain(10..=number::LAST_OF_CHECK) {
         for sort in 0..3 {
             assert!(sorts.contains(&(number, sort)), "{} {}", number, sort);
         }

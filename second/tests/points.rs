@@ -281,7 +281,7 @@ fn points_alone_matter() {
 fn verdicts_are_those_of_check() {
     let mut inputs = Inputs::new(12);
     let mut seen = BTreeSet::new();
-    for record in (0..120_000).map(|_| inputs.record()) {
+    for record in (0..135_000).map(|_| inputs.record()) {
         let (today, bytes) = (record.today, &record.bytes[..]);
         let checked = verdict(KIND, today, bytes);
         let (told, counts, list) = fill_one(today, bytes, MOST_POINTS);

@@ -185,7 +185,7 @@ fn reports_show_open_values() {
 fn calls_agree() {
     let mut inputs = Inputs::new(5);
     let mut longer = 0;
-    for _ in 0..90_000 {
+    for _ in 0..105_000 {
         let record = inputs.record();
         let (kind, today, bytes) = (record.kind, record.today, &record.bytes[..]);
         if matches!(record.call, Call::FascnDecode | Call::FascnEncode) {
@@ -236,7 +236,7 @@ fn same_in_every_room(kind: u64, today: u64, container: &[u8], rooms: impl Fn(us
 #[test]
 fn rooms_of_made_ones() {
     let mut inputs = Inputs::new(6);
-    for _ in 0..90_000 {
+    for _ in 0..105_000 {
         let record = inputs.record();
         if !matches!(record.call, Call::FascnDecode | Call::FascnEncode) {
             same_in_every_room(record.kind, record.today, &record.bytes, |sheet| {

@@ -149,9 +149,18 @@ fn reports_name_every_row() {
     }
 }
 
-/// The tag that stands at a place of a container. In DISCOVERY 5F 2F is one.
-fn tag_at(record: &Record, place: u64) -> Option<u16> {
-    match record.bytes[place as usize..] {
+/// The container that an answer is about: of two the one that it names.
+fn container_of<'a>(record: &'a Record, answer: &Answer) -> &'a [u8] {
+    if answer.which == 1 {
+        &record.chuid
+    } else {
+        &record.bytes
+    }
+}
+
+/// The tag that stands at the place in a container. In DISCOVERY 5F 2F is one.
+fn tag_at(record: &Record, answer: &Answer) -> Option<u16> {
+    match container_of(record, answer)[answer.place as usize..] {
         [0x5F, 0x2F, ..] if record.kind == 3 => Some(0x5F2F),
         [byte, ..] => Some(u16::from(byte)),
         [] => None,
@@ -179,12 +188,12 @@ fn tags_stand_at_their_places() {
         let record = inputs.record();
         let answer = record.answer();
         let outer = matches!(answer.number, 10..=12) && answer.place == 0;
-        let at_the_end = answer.number == 15 && answer.place == record.bytes.len() as u64;
+        let at_the_end = answer.number == 15 && answer.place == container_of(&record, &answer).len() as u64;
         let (expected, none) = match (record.call, answer.number) {
-            (Call::Check | Call::View | Call::Lists, 10..=number::LAST) if !outer => {
-                (tag_at(&record, answer.place), at_the_end)
+            (Call::Check | Call::View | Call::Lists | Call::Signer, 10..=number::LAST_OF_CHECK) if !outer => {
+                (tag_at(&record, &answer), at_the_end)
             }
-            (Call::Write, 10..=number::LAST) => (section_at(&record, answer.place), false),
+            (Call::Write, 10..=number::LAST_OF_CHECK) => (section_at(&record, answer.place), false),
             _ => (None, true),
         };
         assert_eq!(answer.tag, expected, "{:?}", record);
