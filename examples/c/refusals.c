@@ -1,7 +1,7 @@
 // The refusals, across the border: each call answers its number, its place and its tag, and leaves the room or the lists that
-// it was lent all zeros, whatever stood there before; the signer also names a container, and is tried where it finds something,
-// too. tests/linking runs it. It prints a line for each answer that is not as it should be, and then the count of calls; the exit
-// status is 0 only if all are right.
+// it was lent all zeros, whatever stood there before. The signer, which names a container as well, is also tried where it finds
+// a certificate. tests/linking runs it. It prints a line for each answer that is not as it should be, and then the count of
+// calls; the exit status is 0 only if all are right.
 #include <inttypes.h>
 #include <stdio.h>
 #include <string.h>
