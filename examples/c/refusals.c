@@ -103,11 +103,11 @@ static const uint8_t iris[165] = {
     0x00, 0x00, 0x30, 0xFE, 0x00,
 };
 
-// Signature blocks that the containers above get in place of their own. First a CMS SignedData with two certificates and one
-// with a single certificate, the first of them at 29; then one without a field of certificates, and one whose field is empty,
-// with an empty field of revocation lists behind it. The last three are no SignedData: an indefinite length, no SET of signers,
-// and a byte behind.
-#define ID_SIGNED_DATA 0x06, 0x09, 0x2A, 0x86, 0x48, 0x86, 0xF7, 0x0D, 0x01, 0x07, 0x02
+// Signature blocks that the containers above get in place of their own: CMS SignedData with two certificates, with one, and
+// with an item at level 16, the first certificate always at 29; then without a field of certificates, and with an empty one and
+// an empty field of revocation lists behind it.
+#define ID_PKCS7 0x06, 0x09, 0x2A, 0x86, 0x48, 0x86, 0xF7, 0x0D, 0x01, 0x07
+#define ID_SIGNED_DATA ID_PKCS7, 0x02
 #define THREE_PARTS 0x02, 0x01, 0x03, 0x31, 0x00, 0x30, 0x03, 0x06, 0x01, 0x2A
 #define EIGHT_BYTES 0x30, 0x06, 0x05, 0x00, 0x05, 0x00, 0x05, 0x00
 #define NINE_BYTES 0x30, 0x07, 0x02, 0x01, 0x01, 0x05, 0x00, 0x05, 0x00
@@ -117,22 +117,37 @@ static const uint8_t two_certificates[48] = {
 static const uint8_t one_certificate[39] = {
     0x30, 0x25, ID_SIGNED_DATA, 0xA0, 0x18, 0x30, 0x16, THREE_PARTS, 0xA0, 0x08, EIGHT_BYTES, 0x31, 0x00,
 };
+static const uint8_t level_16[63] = {
+    0x30, 0x3D, ID_SIGNED_DATA, 0xA0, 0x30, 0x30, 0x2E, THREE_PARTS, 0xA0, 0x08, EIGHT_BYTES, 0x31, 0x18, 0x30, 0x16,
+    0x30, 0x14, 0x30, 0x12, 0x30, 0x10, 0x30, 0x0E, 0x30, 0x0C, 0x30, 0x0A, 0x30, 0x08, 0x30, 0x06, 0x30, 0x04,
+    0x30, 0x02, 0x05, 0x00,
+};
 static const uint8_t no_certificates[29] = {
     0x30, 0x1B, ID_SIGNED_DATA, 0xA0, 0x0E, 0x30, 0x0C, THREE_PARTS, 0x31, 0x00,
 };
 static const uint8_t empty_field[33] = {
     0x30, 0x1F, ID_SIGNED_DATA, 0xA0, 0x12, 0x30, 0x10, THREE_PARTS, 0xA0, 0x00, 0xA1, 0x00, 0x31, 0x00,
 };
+enum { CERTIFICATE_AT = 29 };
+
+// No such SignedData: an item at level 17, an indefinite length, a byte behind, no SET of signers, and another type of content.
+static const uint8_t level_17[65] = {
+    0x30, 0x3F, ID_SIGNED_DATA, 0xA0, 0x32, 0x30, 0x30, THREE_PARTS, 0xA0, 0x08, EIGHT_BYTES, 0x31, 0x1A, 0x30, 0x18,
+    0x30, 0x16, 0x30, 0x14, 0x30, 0x12, 0x30, 0x10, 0x30, 0x0E, 0x30, 0x0C, 0x30, 0x0A, 0x30, 0x08, 0x30, 0x06,
+    0x30, 0x04, 0x30, 0x02, 0x05, 0x00,
+};
 static const uint8_t indefinite[41] = {
     0x30, 0x80, ID_SIGNED_DATA, 0xA0, 0x18, 0x30, 0x16, THREE_PARTS, 0xA0, 0x08, EIGHT_BYTES, 0x31, 0x00, 0x00, 0x00,
-};
-static const uint8_t no_signers[37] = {
-    0x30, 0x23, ID_SIGNED_DATA, 0xA0, 0x16, 0x30, 0x14, THREE_PARTS, 0xA0, 0x08, EIGHT_BYTES,
 };
 static const uint8_t byte_behind[40] = {
     0x30, 0x25, ID_SIGNED_DATA, 0xA0, 0x18, 0x30, 0x16, THREE_PARTS, 0xA0, 0x08, EIGHT_BYTES, 0x31, 0x00, 0x00,
 };
-enum { CERTIFICATE_AT = 29 };
+static const uint8_t no_signers[37] = {
+    0x30, 0x23, ID_SIGNED_DATA, 0xA0, 0x16, 0x30, 0x14, THREE_PARTS, 0xA0, 0x08, EIGHT_BYTES,
+};
+static const uint8_t another_type[39] = {
+    0x30, 0x25, ID_PKCS7, 0x03, 0xA0, 0x18, 0x30, 0x16, THREE_PARTS, 0xA0, 0x08, EIGHT_BYTES, 0x31, 0x00,
+};
 
 static const uint8_t too_large[PROSIANEK_LARGEST_CONTAINER + 1];
 
@@ -567,15 +582,19 @@ static struct pair with_blocks(struct pair p, struct block of_chuid, struct bloc
 static void blocks(struct pair p) {
     const struct block two = {two_certificates, sizeof two_certificates}, one = {one_certificate, sizeof one_certificate};
     const struct block none = {no_certificates, sizeof no_certificates}, bare = {empty_field, sizeof empty_field};
+    const struct block deep = {level_16, sizeof level_16};
     // the last three: cut by a byte, another SEQUENCE, and no item at all
     const struct block bad_ones[] = {
-        {indefinite, sizeof indefinite}, {no_signers, sizeof no_signers}, {byte_behind, sizeof byte_behind},
-        {one.bytes, one.size - 1},       {certificate + 4, 8},            {chuid, 3},
+        {level_17, sizeof level_17},     {indefinite, sizeof indefinite},     {byte_behind, sizeof byte_behind},
+        {no_signers, sizeof no_signers}, {another_type, sizeof another_type}, {one.bytes, one.size - 1},
+        {certificate + 4, 8},            {chuid, 3},
     };
     const uint64_t here = block_at(p) + CERTIFICATE_AT, there = CHUID_BLOCK_AT + CERTIFICATE_AT;
     finds("signer, both have one", with_blocks(p, one, two), PROSIANEK_IN_BIOMETRIC, here, 9);
     finds("signer, the biometric has one", with_blocks(p, none, one), PROSIANEK_IN_BIOMETRIC, here, 8);
     finds("signer, the CHUID has one", with_blocks(p, one, none), PROSIANEK_IN_CHUID, there, 8);
+    finds("signer, sixteen levels in the biometric", with_blocks(p, none, deep), PROSIANEK_IN_BIOMETRIC, here, 8);
+    finds("signer, sixteen levels in the CHUID", with_blocks(p, deep, none), PROSIANEK_IN_CHUID, there, 8);
     finds("signer, an empty field", with_blocks(p, two, bare), PROSIANEK_IN_CHUID, there, 9);
     refuses_signer("signer, neither has one", with_blocks(p, none, none), PROSIANEK_NEITHER_HOLDS);
     refuses_signer("signer, two empty fields", with_blocks(p, bare, bare), PROSIANEK_NEITHER_HOLDS);
