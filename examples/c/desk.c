@@ -1,12 +1,17 @@
-// desk KIND TODAY FILE: all seven calls on the container in a file. It prints the desk report, an empty line, and then what
-// each of the other calls says. examples/rust/desk.rs prints the same text.
+// desk KIND TODAY FILE [CHUID]: all calls on the container in a file. It prints the desk report, an empty line, and then what
+// each of the other calls says. With the file of the CHUID of the same card it also looks for the certificate of who signed the
+// container, which has to be a biometric: kind 6, 7 or 12. examples/rust/desk.rs prints the same text.
 //
 // What it prints of a card is open by the desk's rules: tags, lengths, agency and system. The sheet, the other seven numbers of
 // a FASC-N, and the points of a FINGERS container are personal, so it only says that they came back. It does not say how many
 // points there are either: no length in the report tells that, since the signature behind them may have any length.
 //
-// Exit status, as that of the desk: 0 if the container conforms; 1 if it breaks a rule, the report is refused or the calls
-// disagree; 2 for bad words, a file that cannot be read whole, or text that cannot be written.
+// The line `signer`, which only stands there where a CHUID is named, is the exception. It has nothing of the certificate, nor
+// where it starts or how long it is; but it tells which of the two containers holds it, or why there is none, and no report
+// tells that much of a card. This is an example for an engineer, and not the desk, which never makes that call.
+//
+// Exit status, as that of the desk: 0 if the container conforms; 1 if it breaks a rule, the report or the certificate is
+// refused, or the calls disagree; 2 for bad words, a file that cannot be read whole, or text that cannot be written.
 #include <inttypes.h>
 #include <stdio.h>
 #include <stdlib.h>
@@ -21,9 +26,13 @@ static const uint64_t tags[] = {
     [PROSIANEK_DIGSIG] = 0x70,   [PROSIANEK_KEYMGMT] = 0x70,  [PROSIANEK_CARDAUTH] = 0x70,    [PROSIANEK_IRIS] = 0xBC,
 };
 
-// The rooms are as large as any answer, so that no call here is refused for its room. The container's has one byte more: a
-// file that is too large is then refused by the calls, and not cut here.
-static uint8_t container[PROSIANEK_LARGEST_CONTAINER + 1];
+// The element of a CHUID with its signature. That of a biometric is the end of BC, which is viewed.
+enum { CHUID_SIGNATURE = 0x3E };
+
+// The rooms are as large as any answer, so that no call here is refused for its room. That of a file has one byte more: one
+// that is too large is then refused by the calls, and not cut here.
+enum { FILE_ROOM = PROSIANEK_LARGEST_CONTAINER + 1 };
+static uint8_t container[FILE_ROOM], chuid[FILE_ROOM];
 static uint8_t sheet[PROSIANEK_SHEET_ROOM];
 static uint8_t written[PROSIANEK_LARGEST_CONTAINER];
 static uint8_t again[PROSIANEK_SHEET_ROOM];
@@ -54,12 +63,17 @@ static int same(struct verdict one, struct verdict other) {
 }
 
 // Two hyphens stand for no tag, as in the report.
-static void refused(const char *call, struct verdict v) {
+static void print_verdict(const char *call, struct verdict v) {
     printf("%s: number %" PRIu64 ", place %" PRIu64 ", tag ", call, v.number, v.place);
     if (v.tag == PROSIANEK_NO_TAG)
-        printf("--\n");
+        printf("--");
     else
-        printf("%02" PRIX64 "\n", v.tag);
+        printf("%02" PRIX64, v.tag);
+}
+
+static void refused(const char *call, struct verdict v) {
+    print_verdict(call, v);
+    printf("\n");
 }
 
 // Decodes a FASC-N and encodes it again; whether it came back.
@@ -114,13 +128,16 @@ static int written_back(uint64_t kind, uint64_t today, size_t sheet_length, size
     return 0;
 }
 
-// The file's bytes go to `container`, as many as it holds; whether all were read that there are.
-static int read_file(const char *name, size_t *size) {
+// The file's bytes, as many as there is room for; whether all were read that there are. Where not, it says so.
+static int read_file(const char *name, uint8_t room[FILE_ROOM], size_t *size) {
     FILE *file = fopen(name, "rb");
-    if (file == NULL) return 0;
-    *size = fread(container, 1, sizeof container, file);
-    int whole = !ferror(file);
-    fclose(file);
+    int whole = 0;
+    if (file != NULL) {
+        *size = fread(room, 1, FILE_ROOM, file);
+        whole = !ferror(file);
+        fclose(file);
+    }
+    if (!whole) fprintf(stderr, "the file '%s' cannot be read\n", name);
     return whole;
 }
 
@@ -184,8 +201,53 @@ static int listed(uint64_t today, size_t size, struct verdict said) {
     return same(v, said);
 }
 
-// Prints what the calls say of the container; 0 if it conforms, else 1.
-static int tell(uint64_t kind, uint64_t today, size_t size) {
+// Whether so many bytes from that offset on lie within the value of an element, as a view of it tells.
+static int lies_in(uint64_t kind, uint64_t today, const uint8_t *bytes, size_t size, uint64_t element, uint64_t offset,
+                   uint64_t length) {
+    uint64_t place, tag, start, whole;
+    uint64_t number = prosianek_view(kind, today, bytes, size, element, &place, &tag, &start, &whole);
+    return number == PROSIANEK_DONE && offset >= start && length <= whole && offset - start <= whole - length;
+}
+
+// Whether a refusal of the signer fits the checks of the CHUID and of the biometric: the first of them that refuses is handed
+// on, and of two that conform neither is named. 1 comes before both.
+static int fits(struct verdict v, uint64_t which, struct verdict of_chuid, struct verdict of_biometric) {
+    if (which == PROSIANEK_IN_CHUID) return same(v, of_chuid);
+    if (which == PROSIANEK_IN_BIOMETRIC) return of_chuid.number == PROSIANEK_DONE && same(v, of_biometric);
+    return v.number == PROSIANEK_UNKNOWN_KIND || (of_chuid.number == PROSIANEK_DONE && of_biometric.number == PROSIANEK_DONE);
+}
+
+static const char *name_of(uint64_t which) {
+    return which == PROSIANEK_IN_CHUID ? "the CHUID" : which == PROSIANEK_IN_BIOMETRIC ? "the biometric" : "neither";
+}
+
+// Looks for the certificate of who signed the biometric; whether there is one, and it lies in the element with the signature.
+// `said` is what the check says of the biometric.
+static int signer(uint64_t kind, uint64_t today, size_t size, size_t chuid_size, struct verdict said) {
+    struct verdict v, of_chuid;
+    uint64_t which, offset, length, room;
+    v.number = prosianek_signer(kind, today, chuid, chuid_size, container, size, &v.place, &v.tag, &which, &offset, &length);
+    if (v.number != PROSIANEK_DONE) {
+        print_verdict("signer", v);
+        printf(", of %s\n", name_of(which));
+        of_chuid.number = prosianek_check(PROSIANEK_CHUID, today, chuid, chuid_size, sheet, 0, &of_chuid.place, &of_chuid.tag,
+                                          &room, &length);
+        if (!fits(v, which, of_chuid, said)) printf("signer: the checks say otherwise\n");
+        return 0;
+    }
+    // the certificate itself would be the `length` bytes at `offset` of that container
+    int found = which == PROSIANEK_IN_CHUID
+                    ? lies_in(PROSIANEK_CHUID, today, chuid, chuid_size, CHUID_SIGNATURE, offset, length)
+                    : which == PROSIANEK_IN_BIOMETRIC && lies_in(kind, today, container, size, tags[kind], offset, length);
+    if (found)
+        printf("signer: the certificate is in %s\n", name_of(which));
+    else
+        printf("signer: the certificate is not in the element with the signature\n");
+    return found && same(v, said);
+}
+
+// Prints what the calls say of the container; 0 if it conforms, else 1. The signer is looked for where there is a CHUID.
+static int tell(uint64_t kind, uint64_t today, size_t size, const size_t *chuid_size) {
     uint64_t length;
     uint64_t number = prosianek_report(kind, today, container, size, report, sizeof report, &length);
     if (number != PROSIANEK_DONE) {
@@ -215,22 +277,21 @@ static int tell(uint64_t kind, uint64_t today, size_t size) {
     if (!same(again, said) || (room == PROSIANEK_SMALL_ROOM) != (said.number == PROSIANEK_DONE)) off = 1;
     if (!viewed(kind, today, size, said)) off = 1;
     if (kind == PROSIANEK_FINGERS && !listed(today, size, said)) off = 1;
+    if (chuid_size != NULL && !signer(kind, today, size, *chuid_size, said)) off = 1;
     return off || said.number != PROSIANEK_DONE;
 }
 
 int main(int count, char **words) {
     uint64_t kind, today;
-    size_t size;
-    if (count != 4 || !number_of(words[1], &kind) || !number_of(words[2], &today)) {
-        fprintf(stderr, "desk KIND TODAY FILE\n");
+    size_t size, chuid_size;
+    if ((count != 4 && count != 5) || !number_of(words[1], &kind) || !number_of(words[2], &today)) {
+        fprintf(stderr, "desk KIND TODAY FILE [CHUID]\n");
         return 2;
     }
     // a report of half a file would be wrong
-    if (!read_file(words[3], &size)) {
-        fprintf(stderr, "the file '%s' cannot be read\n", words[3]);
-        return 2;
-    }
-    int status = tell(kind, today, size);
+    if (!read_file(words[3], container, &size)) return 2;
+    if (count == 5 && !read_file(words[4], chuid, &chuid_size)) return 2;
+    int status = tell(kind, today, size, count == 5 ? &chuid_size : NULL);
     if (fflush(stdout) != 0 || ferror(stdout)) {
         fprintf(stderr, "not all could be written\n");
         return 2;

@@ -1,6 +1,7 @@
 // The refusals, across the border: each call answers its number, its place and its tag, and leaves the room or the lists that
-// it was lent all zeros, whatever stood there before. tests/linking runs it. It prints a line for each answer that is not as it
-// should be, and then the count of calls; the exit status is 0 only if all are right.
+// it was lent all zeros, whatever stood there before. The signer, which names a container as well, is also tried where it finds
+// a certificate. tests/linking runs it. It prints a line for each answer that is not as it should be, and then the count of
+// calls; the exit status is 0 only if all are right.
 #include <inttypes.h>
 #include <stdio.h>
 #include <string.h>
@@ -102,11 +103,58 @@ static const uint8_t iris[165] = {
     0x00, 0x00, 0x30, 0xFE, 0x00,
 };
 
+// Signature blocks that the containers above get in place of their own: CMS SignedData with two certificates, with one, and
+// with an item at level 16, the first certificate always at 29; then without a field of certificates, and with an empty one and
+// an empty field of revocation lists behind it.
+#define ID_PKCS7 0x06, 0x09, 0x2A, 0x86, 0x48, 0x86, 0xF7, 0x0D, 0x01, 0x07
+#define ID_SIGNED_DATA ID_PKCS7, 0x02
+#define THREE_PARTS 0x02, 0x01, 0x03, 0x31, 0x00, 0x30, 0x03, 0x06, 0x01, 0x2A
+#define EIGHT_BYTES 0x30, 0x06, 0x05, 0x00, 0x05, 0x00, 0x05, 0x00
+#define NINE_BYTES 0x30, 0x07, 0x02, 0x01, 0x01, 0x05, 0x00, 0x05, 0x00
+static const uint8_t two_certificates[48] = {
+    0x30, 0x2E, ID_SIGNED_DATA, 0xA0, 0x21, 0x30, 0x1F, THREE_PARTS, 0xA0, 0x11, NINE_BYTES, EIGHT_BYTES, 0x31, 0x00,
+};
+static const uint8_t one_certificate[39] = {
+    0x30, 0x25, ID_SIGNED_DATA, 0xA0, 0x18, 0x30, 0x16, THREE_PARTS, 0xA0, 0x08, EIGHT_BYTES, 0x31, 0x00,
+};
+static const uint8_t level_16[63] = {
+    0x30, 0x3D, ID_SIGNED_DATA, 0xA0, 0x30, 0x30, 0x2E, THREE_PARTS, 0xA0, 0x08, EIGHT_BYTES, 0x31, 0x18, 0x30, 0x16,
+    0x30, 0x14, 0x30, 0x12, 0x30, 0x10, 0x30, 0x0E, 0x30, 0x0C, 0x30, 0x0A, 0x30, 0x08, 0x30, 0x06, 0x30, 0x04,
+    0x30, 0x02, 0x05, 0x00,
+};
+static const uint8_t no_certificates[29] = {
+    0x30, 0x1B, ID_SIGNED_DATA, 0xA0, 0x0E, 0x30, 0x0C, THREE_PARTS, 0x31, 0x00,
+};
+static const uint8_t empty_field[33] = {
+    0x30, 0x1F, ID_SIGNED_DATA, 0xA0, 0x12, 0x30, 0x10, THREE_PARTS, 0xA0, 0x00, 0xA1, 0x00, 0x31, 0x00,
+};
+enum { CERTIFICATE_AT = 29 };
+
+// No such SignedData: an item at level 17, an indefinite length, a byte behind, no SET of signers, and another type of content.
+static const uint8_t level_17[65] = {
+    0x30, 0x3F, ID_SIGNED_DATA, 0xA0, 0x32, 0x30, 0x30, THREE_PARTS, 0xA0, 0x08, EIGHT_BYTES, 0x31, 0x1A, 0x30, 0x18,
+    0x30, 0x16, 0x30, 0x14, 0x30, 0x12, 0x30, 0x10, 0x30, 0x0E, 0x30, 0x0C, 0x30, 0x0A, 0x30, 0x08, 0x30, 0x06,
+    0x30, 0x04, 0x30, 0x02, 0x05, 0x00,
+};
+static const uint8_t indefinite[41] = {
+    0x30, 0x80, ID_SIGNED_DATA, 0xA0, 0x18, 0x30, 0x16, THREE_PARTS, 0xA0, 0x08, EIGHT_BYTES, 0x31, 0x00, 0x00, 0x00,
+};
+static const uint8_t byte_behind[40] = {
+    0x30, 0x25, ID_SIGNED_DATA, 0xA0, 0x18, 0x30, 0x16, THREE_PARTS, 0xA0, 0x08, EIGHT_BYTES, 0x31, 0x00, 0x00,
+};
+static const uint8_t no_signers[37] = {
+    0x30, 0x23, ID_SIGNED_DATA, 0xA0, 0x16, 0x30, 0x14, THREE_PARTS, 0xA0, 0x08, EIGHT_BYTES,
+};
+static const uint8_t another_type[39] = {
+    0x30, 0x25, ID_PKCS7, 0x03, 0xA0, 0x18, 0x30, 0x16, THREE_PARTS, 0xA0, 0x08, EIGHT_BYTES, 0x31, 0x00,
+};
+
 static const uint8_t too_large[PROSIANEK_LARGEST_CONTAINER + 1];
 
-// What the calls are lent. The room is longer than any size that is lent of it, so that a byte written behind it shows.
+// What the calls are lent. The room is longer than any size that is lent of it, so that a byte written behind it shows. The
+// holder is the container, CHUID or biometric, that the signer names.
 static uint8_t room[1024];
-static uint64_t place, tag, beside, offset, length, numbers[9];
+static uint64_t place, tag, beside, holder, offset, length, numbers[9];
 
 // The five lists, which are lent as the room is, so many numbers of each: types, x, y, angles and qualities. And what they hold
 // of `fingers`.
@@ -122,7 +170,7 @@ static int calls, bad;
 // Before each call: something stale in everything that is lent.
 static void stale(void) {
     memset(room, STALE, sizeof room);
-    place = tag = beside = offset = length = first = second = STALE;
+    place = tag = beside = holder = offset = length = first = second = STALE;
     for (int i = 0; i < 9; i++) numbers[i] = STALE;
     for (int k = 0; k < LISTS; k++)
         for (int i = 0; i < ENTRIES; i++) list[k][i] = STALE;
@@ -244,9 +292,68 @@ static void lists(const char *what, const uint8_t *c, size_t size, const size_t 
     leaves_lists(what, one, two, lent);
 }
 
+// Two containers for the signer: a CHUID, and a biometric with its kind.
+struct pair {
+    const uint8_t *chuid;
+    size_t chuid_size;
+    uint64_t kind;
+    const uint8_t *biometric;
+    size_t size;
+};
+
+static uint64_t call_signer(uint64_t today, struct pair p) {
+    stale();
+    return prosianek_signer(p.kind, today, p.chuid, p.chuid_size, p.biometric, p.size, &place, &tag, &holder, &offset, &length);
+}
+
+// After a call: the container that is named, and the part of it; the signer is lent no room.
+static void leaves_part(const char *what, uint64_t in, uint64_t at, uint64_t bytes) {
+    if (holder != in) wrong(what, "another container is named");
+    if (offset != at || length != bytes) wrong(what, "another offset or length");
+    leaves(what, 0, 0);
+}
+
+// A signer that is refused, with the verdict's place and tag and the container that it is about.
+static void no_signer(const char *what, uint64_t today, struct pair p, uint64_t expected, uint64_t where, uint64_t which,
+                      uint64_t in) {
+    answers(what, call_signer(today, p), expected);
+    names(what, where, which);
+    leaves_part(what, in, 0, 0);
+}
+
+// A refusal that is no check's.
+static void refuses_signer(const char *what, struct pair p, uint64_t expected) {
+    no_signer(what, TODAY, p, expected, 0, PROSIANEK_NO_TAG, PROSIANEK_NEITHER);
+}
+
+// A certificate that is found: in which container, where, and how long.
+static void finds(const char *what, struct pair p, uint64_t in, uint64_t at, uint64_t bytes) {
+    answers(what, call_signer(TODAY, p), PROSIANEK_DONE);
+    names(what, 0, PROSIANEK_NO_TAG);
+    leaves_part(what, in, at, bytes);
+}
+
+static int is_biometric(uint64_t kind) {
+    return kind == PROSIANEK_FINGERS || kind == PROSIANEK_FACE || kind == PROSIANEK_IRIS;
+}
+
+// The signer names a container that breaks a rule, too: a CHUID whatever the biometric is, and a biometric beside a CHUID that
+// conforms.
+static void breaks_signer(const char *what, uint64_t kind, const uint8_t *c, size_t size, uint64_t expected, uint64_t where,
+                          uint64_t which) {
+    const struct pair as_chuid = {c, size, PROSIANEK_FACE, face, sizeof face};
+    const struct pair both_broken = {c, size, PROSIANEK_IRIS, face, sizeof face};
+    const struct pair as_biometric = {chuid, sizeof chuid, kind, c, size};
+    if (kind == PROSIANEK_CHUID) {
+        no_signer(what, TODAY, as_chuid, expected, where, which, PROSIANEK_IN_CHUID);
+        no_signer(what, TODAY, both_broken, expected, where, which, PROSIANEK_IN_CHUID);
+    }
+    if (is_biometric(kind)) no_signer(what, TODAY, as_biometric, expected, where, which, PROSIANEK_IN_BIOMETRIC);
+}
+
 // A container that breaks a rule: check, with a room and without one, and view all answer its number, its place and its tag.
 // The view asks for an element that no container here has: what it names is not that. The lists, of FINGERS alone, are refused
-// alike, those that would do and those without entries: a broken rule comes before the 3.
+// alike, those that would do and those without entries: a broken rule comes before the 3. And so is the signer.
 static void breaks(const char *what, uint64_t kind, const uint8_t *c, size_t size, uint64_t expected, uint64_t where,
                    uint64_t which) {
     for (size_t lent = 0; lent <= 100; lent += 100) {
@@ -261,6 +368,7 @@ static void breaks(const char *what, uint64_t kind, const uint8_t *c, size_t siz
     answers(what, prosianek_view(kind, TODAY, c, size, 0x08, &place, &tag, &offset, &length), expected);
     names(what, where, which);
     if (offset != 0 || length != 0) wrong(what, "an offset or a length");
+    breaks_signer(what, kind, c, size, expected, where, which);
     if (kind != PROSIANEK_FINGERS) return;
     no_lists(what, TODAY, c, size, enough, expected, where, which);
     no_lists(what, TODAY, c, size, empty, expected, where, which);
@@ -436,6 +544,121 @@ static void iris_records(void) {
     breaks_at("reserved bytes and properties", kind, both, size, 93, 1, PROSIANEK_BAD_HEADER, 3, 0xBC);
 }
 
+struct block {
+    const uint8_t *bytes;
+    size_t size;
+};
+// Where a CHUID's block stands: in 3E, its element before the last. That of a biometric stands before the last element, too.
+enum { CHUID_BLOCK_AT = 59, LARGEST = 256 };
+
+static size_t block_at(struct pair p) { return p.size - 2 - p.biometric[13]; }
+
+static size_t put_block(uint8_t *to, const uint8_t *from, size_t at, struct block block) {
+    memcpy(to, from, at);
+    memcpy(to + at, block.bytes, block.size);
+    memcpy(to + at + block.size, "\xFE\0", 2);
+    return at + block.size + 2;
+}
+
+// The CHUID and the biometric of a pair with other blocks. Each length that changes has one byte: those of the CHUID and of 3E,
+// at 1 and 58, and those of the biometric, of BC and of the block, at 2, 5 and 13.
+static struct pair with_blocks(struct pair p, struct block of_chuid, struct block of_biometric) {
+    static uint8_t c[LARGEST], b[LARGEST];
+    const size_t old = p.biometric[13];
+    p.chuid_size = put_block(c, chuid, CHUID_BLOCK_AT, of_chuid);
+    p.size = put_block(b, p.biometric, block_at(p), of_biometric);
+    c[1] = (uint8_t)(c[1] + of_chuid.size);
+    c[58] = (uint8_t)of_chuid.size;
+    b[2] = (uint8_t)(b[2] + of_biometric.size - old);
+    b[5] = (uint8_t)(b[5] + of_biometric.size - old);
+    b[13] = (uint8_t)of_biometric.size;
+    p.chuid = c;
+    p.biometric = b;
+    return p;
+}
+
+// A pair with this or that block in each: where the certificate is found, and why not. The CHUID's block is read only where the
+// biometric's has no certificate, and 29 comes before 30.
+static void blocks(struct pair p) {
+    const struct block two = {two_certificates, sizeof two_certificates}, one = {one_certificate, sizeof one_certificate};
+    const struct block none = {no_certificates, sizeof no_certificates}, bare = {empty_field, sizeof empty_field};
+    const struct block deep = {level_16, sizeof level_16};
+    // the last three: cut by a byte, another SEQUENCE, and no item at all
+    const struct block bad_ones[] = {
+        {level_17, sizeof level_17},     {indefinite, sizeof indefinite},     {byte_behind, sizeof byte_behind},
+        {no_signers, sizeof no_signers}, {another_type, sizeof another_type}, {one.bytes, one.size - 1},
+        {certificate + 4, 8},            {chuid, 3},
+    };
+    const uint64_t here = block_at(p) + CERTIFICATE_AT, there = CHUID_BLOCK_AT + CERTIFICATE_AT;
+    finds("signer, both have one", with_blocks(p, one, two), PROSIANEK_IN_BIOMETRIC, here, 9);
+    finds("signer, the biometric has one", with_blocks(p, none, one), PROSIANEK_IN_BIOMETRIC, here, 8);
+    finds("signer, the CHUID has one", with_blocks(p, one, none), PROSIANEK_IN_CHUID, there, 8);
+    finds("signer, sixteen levels in the biometric", with_blocks(p, none, deep), PROSIANEK_IN_BIOMETRIC, here, 8);
+    finds("signer, sixteen levels in the CHUID", with_blocks(p, deep, none), PROSIANEK_IN_CHUID, there, 8);
+    finds("signer, an empty field", with_blocks(p, two, bare), PROSIANEK_IN_CHUID, there, 9);
+    refuses_signer("signer, neither has one", with_blocks(p, none, none), PROSIANEK_NEITHER_HOLDS);
+    refuses_signer("signer, two empty fields", with_blocks(p, bare, bare), PROSIANEK_NEITHER_HOLDS);
+    // a biometric that conforms has no empty block, but a CHUID may
+    refuses_signer("signer, an empty 3E", with_blocks(p, (struct block){chuid, 0}, none), PROSIANEK_CHUID_BLOCK);
+    for (size_t i = 0; i < sizeof bad_ones / sizeof bad_ones[0]; i++) {
+        const struct block no = bad_ones[i];
+        finds("signer, no need of the CHUID's block", with_blocks(p, no, one), PROSIANEK_IN_BIOMETRIC, here, 8);
+        refuses_signer("signer, the CHUID's block is none", with_blocks(p, no, none), PROSIANEK_CHUID_BLOCK);
+        refuses_signer("signer, the biometric's block is none", with_blocks(p, one, no), PROSIANEK_BIOMETRIC_BLOCK);
+        refuses_signer("signer, both blocks are none", with_blocks(p, no, no), PROSIANEK_BIOMETRIC_BLOCK);
+    }
+
+    // Another digit in the biometric's FASC-N, with the check character that it needs. That comes before the blocks.
+    uint8_t changed[LARGEST];
+    memcpy(changed, p.biometric, p.size);
+    changed[84] = 0x22;
+    changed[89] = 0xF5;
+    p.biometric = changed;
+    refuses_signer("signer, FASC-N differ", with_blocks(p, one, two), PROSIANEK_FASCN_DIFFER);
+    refuses_signer("signer, FASC-N differ, no blocks", with_blocks(p, bad_ones[0], bad_ones[0]), PROSIANEK_FASCN_DIFFER);
+}
+
+// What the signer refuses before it looks at a block, in its order: the kind, the date, the CHUID, the biometric. A container
+// of no bytes has a pointer that is not null, and both may be the same bytes.
+static void no_pairs(struct pair p) {
+    static const uint64_t kinds[] = {0, 1, 2, 3, 4, 5, 8, 9, 10, 11, 13, UINT64_MAX}, dates[] = {0, 20260229, UINT64_MAX};
+    const uint64_t none = PROSIANEK_NO_TAG, in_chuid = PROSIANEK_IN_CHUID, in_biometric = PROSIANEK_IN_BIOMETRIC;
+    const struct pair large = {too_large, sizeof too_large, p.kind, too_large, sizeof too_large};
+    struct pair q;
+    for (int i = 0; i < 12; i++) {
+        q = p;
+        q.kind = kinds[i];
+        refuses_signer("signer, bad kind", q, PROSIANEK_UNKNOWN_KIND);
+        q = large;
+        q.kind = kinds[i];
+        no_signer("signer, all wrong", 0, q, PROSIANEK_UNKNOWN_KIND, 0, none, PROSIANEK_NEITHER);
+    }
+    for (int i = 0; i < 3; i++) no_signer("signer, bad date", dates[i], large, PROSIANEK_NO_DATE, 0, none, in_chuid);
+    no_signer("signer, both of 32,769 bytes", TODAY, large, PROSIANEK_LARGE_CONTAINER, 0, none, in_chuid);
+    q = large;
+    q.chuid_size = q.size = 0;
+    no_signer("signer, no bytes at all", TODAY, q, PROSIANEK_OUTER_TAG, 0, none, in_chuid);
+    q.chuid = chuid;
+    q.chuid_size = sizeof chuid;
+    no_signer("signer, a biometric of no bytes", TODAY, q, PROSIANEK_OUTER_TAG, 0, none, in_biometric);
+    q.size = sizeof too_large;
+    no_signer("signer, a biometric of 32,769 bytes", TODAY, q, PROSIANEK_LARGE_CONTAINER, 0, none, in_biometric);
+    q = p;
+    q.chuid = q.biometric;
+    q.chuid_size = q.size;
+    no_signer("signer, the biometric twice", TODAY, q, PROSIANEK_UNKNOWN_TAG, 3, 0xBC, in_chuid);
+    q = p;
+    q.biometric = q.chuid;
+    q.size = q.chuid_size;
+    no_signer("signer, the CHUID twice", TODAY, q, PROSIANEK_UNKNOWN_TAG, 2, 0x30, in_biometric);
+}
+
+static void signers(uint64_t kind, const uint8_t *c, size_t size) {
+    const struct pair p = {chuid, sizeof chuid, kind, c, size};
+    no_pairs(p);
+    blocks(p);
+}
+
 static void decode(const char *what, const uint8_t *bytes, size_t size) {
     stale();
     answers(what, prosianek_fascn_decode(bytes, size, numbers), PROSIANEK_BAD_FASCN);
@@ -515,6 +738,9 @@ int main(void) {
     lists_of_points();
     face_records();
     iris_records();
+    signers(PROSIANEK_FINGERS, no_points, sizeof no_points);
+    signers(PROSIANEK_FACE, face, sizeof face);
+    signers(PROSIANEK_IRIS, iris, sizeof iris);
     for (uint64_t kind = PROSIANEK_PIVAUTH; kind <= PROSIANEK_CARDAUTH; kind++) certificates(kind);
 
     // Each of the nine numbers with one digit too many; that comes before the room.

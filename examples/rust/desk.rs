@@ -1,10 +1,12 @@
-//! desk KIND TODAY FILE: all seven calls on the container in a file. It prints the desk report, an empty line, and then what
-//! each of the other calls says. examples/c/desk.c prints the same text, and says what is printed and why no more.
+//! desk KIND TODAY FILE [CHUID]: all calls on the container in a file. It prints the desk report, an empty line, and then what
+//! each of the other calls says. With the file of the CHUID of the same card it also looks for the certificate of who signed
+//! the container, which has to be a biometric: kind 6, 7 or 12. examples/c/desk.c prints the same text, and says what is
+//! printed and why no more.
 //!
-//! Exit status, as that of the desk: 0 if the container conforms; 1 if it breaks a rule, the report is refused or the calls
-//! disagree; 2 for bad words, a file that cannot be read whole, or text that cannot be written.
+//! Exit status, as that of the desk: 0 if the container conforms; 1 if it breaks a rule, the report or the certificate is
+//! refused, or the calls disagree; 2 for bad words, a file that cannot be read whole, or text that cannot be written.
 mod prosianek;
-use prosianek::{Point, Refused};
+use prosianek::{Point, Refused, Which};
 use std::io::{self, Write};
 use std::process::exit;
 
@@ -21,6 +23,9 @@ fn tag_of(kind: u64) -> u64 {
     }
 }
 
+/// The element of a CHUID with its signature. That of a biometric is the end of BC, which is viewed.
+const CHUID_SIGNATURE: u64 = 0x3E;
+
 /// Where the views stand in the value of BC: the byte with the first one's count is there, and its points follow. Between a
 /// view's last point and the next view's count are five bytes.
 const FIRST_COUNT: usize = 117;
@@ -35,32 +40,40 @@ fn number_of(word: &str) -> Option<u64> {
     word.parse().ok()
 }
 
-fn refused(out: &mut impl Write, call: &str, r: Refused) -> io::Result<()> {
-    // two hyphens for no tag, as in the report
+/// What a refusal names. Two hyphens stand for no tag, as in the report.
+fn words_of(r: Refused) -> String {
     let tag = r.tag.map_or("--".to_string(), |tag| format!("{tag:02X}"));
-    writeln!(
-        out,
-        "{call}: number {}, place {}, tag {tag}",
-        r.number, r.place
-    )
+    format!("number {}, place {}, tag {tag}", r.number, r.place)
+}
+
+fn refused(out: &mut impl Write, call: &str, r: Refused) -> io::Result<()> {
+    writeln!(out, "{call}: {}", words_of(r))
+}
+
+/// The file's bytes. A report of half a file would be wrong.
+fn read_file(name: &str) -> Vec<u8> {
+    std::fs::read(name).unwrap_or_else(|_| {
+        eprintln!("the file '{name}' cannot be read");
+        exit(2)
+    })
 }
 
 fn main() {
     let words: Vec<String> = std::env::args().collect();
     let numbers = match words.len() {
-        4 => number_of(&words[1]).zip(number_of(&words[2])),
+        4 | 5 => number_of(&words[1]).zip(number_of(&words[2])),
         _ => None,
     };
     let (kind, today) = numbers.unwrap_or_else(|| {
-        eprintln!("desk KIND TODAY FILE");
+        eprintln!("desk KIND TODAY FILE [CHUID]");
         exit(2)
     });
-    let container = std::fs::read(&words[3]).unwrap_or_else(|_| {
-        eprintln!("the file '{}' cannot be read", words[3]);
-        exit(2)
-    });
+    let container = read_file(&words[3]);
+    let chuid = words.get(4).map(|name| read_file(name));
     let mut out = io::stdout();
-    match tell(&mut out, kind, today, &container).and_then(|good| out.flush().map(|()| good)) {
+    match tell(&mut out, kind, today, &container, chuid.as_deref())
+        .and_then(|good| out.flush().map(|()| good))
+    {
         Ok(good) => exit(!good as i32),
         Err(_) => {
             eprintln!("not all could be written");
@@ -69,8 +82,14 @@ fn main() {
     }
 }
 
-/// Prints what the calls say of a container; whether it conforms.
-fn tell(out: &mut impl Write, kind: u64, today: u64, container: &[u8]) -> io::Result<bool> {
+/// Prints what the calls say of a container; whether it conforms. The signer is looked for where there is a CHUID.
+fn tell(
+    out: &mut impl Write,
+    kind: u64,
+    today: u64,
+    container: &[u8],
+    chuid: Option<&[u8]>,
+) -> io::Result<bool> {
     let mut room = [0; prosianek::REPORT_ROOM];
     match prosianek::report(kind, today, container, &mut room) {
         Ok(length) => out.write_all(&room[..length])?,
@@ -102,6 +121,9 @@ fn tell(out: &mut impl Write, kind: u64, today: u64, container: &[u8]) -> io::Re
 
     off |= !viewed(out, kind, today, container, verdict.err())?;
     off |= kind == prosianek::FINGERS && !listed(out, today, container, verdict.err())?;
+    if let Some(chuid) = chuid {
+        off |= !signer(out, kind, today, container, chuid, verdict.err())?;
+    }
     Ok(!off && verdict.is_ok())
 }
 
@@ -185,6 +207,67 @@ fn same_point(bytes: &[u8], point: &Point) -> bool {
         && two(2) == point.y
         && one(4) == point.angle
         && one(5) == point.quality
+}
+
+/// Looks for the certificate of who signed the biometric; whether there is one, and it lies in the element with the signature.
+/// `said` is what the check says of the biometric.
+fn signer(
+    out: &mut impl Write,
+    kind: u64,
+    today: u64,
+    biometric: &[u8],
+    chuid: &[u8],
+    said: Option<Refused>,
+) -> io::Result<bool> {
+    let (which, range) = match prosianek::signer(kind, today, chuid, biometric) {
+        Ok(found) => found,
+        Err((which, r)) => {
+            let name = which.map_or("neither", name_of);
+            writeln!(out, "signer: {}, of {name}", words_of(r))?;
+            let of_chuid = prosianek::check(prosianek::CHUID, today, chuid, &mut []).err();
+            if !fits(r, which, of_chuid, said) {
+                writeln!(out, "signer: the checks say otherwise")?;
+            }
+            return Ok(false);
+        }
+    };
+    // the certificate itself would be `&chuid[range]` or `&biometric[range]`
+    let element = match which {
+        Which::Chuid => prosianek::view(prosianek::CHUID, today, chuid, CHUID_SIGNATURE),
+        Which::Biometric => prosianek::view(kind, today, biometric, tag_of(kind)),
+    };
+    let found = element.map_or(false, |e| e.start <= range.start && range.end <= e.end);
+    if found {
+        writeln!(out, "signer: the certificate is in {}", name_of(which))?;
+    } else {
+        writeln!(
+            out,
+            "signer: the certificate is not in the element with the signature"
+        )?;
+    }
+    Ok(found && said.is_none())
+}
+
+fn name_of(which: Which) -> &'static str {
+    match which {
+        Which::Chuid => "the CHUID",
+        Which::Biometric => "the biometric",
+    }
+}
+
+/// Whether a refusal of the signer fits the checks of the CHUID and of the biometric: the first of them that refuses is handed
+/// on, and of two that conform neither is named. 1 comes before both.
+fn fits(
+    r: Refused,
+    which: Option<Which>,
+    of_chuid: Option<Refused>,
+    of_biometric: Option<Refused>,
+) -> bool {
+    match which {
+        Some(Which::Chuid) => of_chuid == Some(r),
+        Some(Which::Biometric) => of_chuid.is_none() && of_biometric == Some(r),
+        None => r.number == 1 || (of_chuid.is_none() && of_biometric.is_none()),
+    }
 }
 
 /// Writes the container of a sheet; whether it is the one that the sheet was read from. A container with a length in a longer
