@@ -4,3 +4,4 @@ pub mod Shapes
 pub mod Ways
 pub mod Wrapped
 pub mod Exact
+pub mod Computed

@@ -42,7 +42,7 @@ use Rattle.signer.proofs.Elements.{Row, row, within}
 
 -- ---- the biometric
 
-bc-row : (kind : ℕ) → IsBiometric kind → rowAt kind 0 ≡ Holds 0xBC false
+pub bc-row : (kind : ℕ) → IsBiometric kind → rowAt kind 0 ≡ Holds 0xBC false
 bc-row kind (inl e) = rw e
 bc-row kind (inr (inl e)) = rw e
 bc-row kind (inr (inr e)) = rw e

@@ -14,7 +14,7 @@ use Rattle.laws.proofs.Cases.{no-some}
 use Rattle.verdicts.specs.declared.Outcome.the-variants.{Fine}
 use Rattle.kinds.specs.Tables.{Table, table, first, rowAt}
 use Rattle.kinds.specs.declared.Slot.the-variants.{End, Holds}
-use Rattle.container.specs.Container.{Values, Allowed}
+use Rattle.container.specs.Container.{Values, Allowed, Conforms}
 use Rattle.container.specs.Reading.{Part, values, valuesOf, located}
 use Rattle.container.specs.Map.{mapOf}
 use Rattle.container.specs.declared.Map.{Map}
@@ -95,6 +95,23 @@ module _ (kind today : ℕ) (c : List ℕ) (b : Bytes c) {m : Map} (e : m ≡ ma
         inside = rw (← x) (s .inside);
         bytes = rw (← x) (s .stands);
       }
+
+-- ---- a row that must be there, as a view shows it
+
+pub element-of : (kind today : ℕ) (c : List ℕ) → Bytes c → (vs : Values) → Conforms kind today vs c → (i t : ℕ) → rowAt kind i ≡ Holds t false
+    → Element kind today c t (viewed kind today c t .part .bytes) (viewed kind today c t .part .offset)
+element-of kind today c b vs h i t r =
+    let (v, g) = must-have today (table kind) vs (h .allowed) i r in
+    let e = element-view kind today c b vs h i r v g .value in
+    record {
+      values = vs;
+      conforms = h;
+      row = i;
+      optional = false;
+      row-is = r;
+      value-is = rw e g;
+      place-is = element-place kind today c b vs h i r v g;
+    }
 
 -- ---- an element, as a view shows it
 

@@ -3,3 +3,4 @@ pub mod Ways
 pub mod Both
 pub mod Handing
 pub mod Once
+pub mod Computed
