@@ -96,8 +96,8 @@ module _ (kind today : ℕ) (k : IsBiometric kind) (c : List ℕ) (b : Bytes c) 
 module _ (chuid biometric : List ℕ) where
   abbrev Lies : Signed → Type 0
   Lies a =
-      (a .offset + length (a .bytes) ≤ length (spec.named (a .which) chuid biometric))
-      × (take (length (a .bytes)) (drop (a .offset) (spec.named (a .which) chuid biometric)) ≡ a .bytes)
+      (a .offset + length (a .bytes) ≤ length (spec.holder (a .verdict) (a .which) chuid biometric))
+      × (take (length (a .bytes)) (drop (a .offset) (spec.holder (a .verdict) (a .which) chuid biometric)) ≡ a .bytes)
 
   -- a part of a part
   deeper : (c v w : List ℕ) (at k : ℕ) → at + length v ≤ length c → take (length v) (drop at c) ≡ v → k + length w ≤ length v → take (length w) (drop k v) ≡ w

@@ -9,7 +9,7 @@ use Rattle.laws.specs.Layout.{field, part}
 use Rattle.verdicts.specs.declared.Finding.{Finding}
 use Rattle.verdicts.specs.declared.Verdict.{Verdict}
 use Rattle.container.specs.InOrder.{Named}
-use Rattle.signer.specs.Signer.{Biometric, Signed, refusal, Compared, Says, named}
+use Rattle.signer.specs.Signer.{Biometric, Signed, refusal, Compared, Says, holder}
 use Rattle.signer.specs.declared.Located.{Located}
 
 abbrev pub isBiometric : ℕ → Bool
@@ -43,5 +43,5 @@ pub record Locates (kind today : ℕ) (chuid biometric : List ℕ) (r : Located)
   pub signed : Signed
   pub says : Says kind today chuid biometric signed
   pub is : r ≡ located signed
-  pub inside : r .to ≤ length (named (r .which) chuid biometric)
-  pub bytes-are : take (r .to - r .from) (drop (r .from) (named (r .which) chuid biometric)) ≡ signed .bytes
+  pub inside : r .to ≤ length (holder (r .verdict) (r .which) chuid biometric)
+  pub bytes-are : take (r .to - r .from) (drop (r .from) (holder (r .verdict) (r .which) chuid biometric)) ≡ signed .bytes

@@ -3,7 +3,7 @@
 use Prim.Native.Nat.{ℕ, _+_}
 use mathlib.Core.Path.{_≡_}
 use mathlib.Core.Logic.{_⊎_}
-use mathlib.Core.Bool.{Bool, cond}
+use mathlib.Core.Bool.{Bool, cond, _&&_}
 use mathlib.Core.Option.{none, some}
 use mathlib.Core.List.{List, []}
 use lib.Dec.{eqb}
@@ -107,19 +107,19 @@ pub data Says (kind today : ℕ) (chuid biometric : List ℕ) (a : Signed) : Typ
 
 -- ---- the answer of the call
 
--- of the two, the one that is named: the CHUID by 1, else the biometric
-abbrev pub named : {A : Type 0} → ℕ → A → A → A
-named which chuid biometric = cond (eqb which 1) chuid biometric
+-- "a part of the one it lies in": of the two, the CHUID where a certificate is found there, else the biometric
+abbrev pub holder : {A : Type 0} → Verdict → ℕ → A → A → A
+holder v which chuid biometric = cond (eqb (v .number) 0 && eqb which 1) chuid biometric
 
 -- the four numbers that it stores, and the part that it hands out, a block of memory, an offset in it and bytes, of two containers that stand at a block and an
--- offset each. So a refusal's empty part is at the biometric's start
+-- offset each. So a refusal's empty part, whichever container it is about, is at the biometric's start
 pub record Answers (a : Signed) (chuid biometric : ℕ × ℕ) (number place tag which : ℕ) (part : ℕ × ℕ) (bytes : List ℕ) : Type 0 where
   pub number-is : number ≡ a .verdict .number
   pub place-is : place ≡ a .verdict .place
   pub tag-is : tag ≡ tagNumber (a .verdict .tag)
   pub which-is : which ≡ a .which
-  pub block-is : part .0 ≡ named (a .which) chuid biometric .0
-  pub offset-is : part .1 ≡ named (a .which) chuid biometric .1 + a .offset
+  pub block-is : part .0 ≡ holder (a .verdict) (a .which) chuid biometric .0
+  pub offset-is : part .1 ≡ holder (a .verdict) (a .which) chuid biometric .1 + a .offset
   pub bytes-are : bytes ≡ a .bytes
 
 -- the call: what it says of the two containers, and answers

@@ -145,7 +145,7 @@ pub fn locate(kind: u64, today: u64, chuid: &[u8], biometric: &[u8]) -> Located
     }
 }
 
-// The same, with the certificate itself.
+// The same, with the certificate itself. A refusal's empty part is the biometric's, also where it is about the CHUID.
 pub fn signer<'a>(
     kind: u64,
     today: u64,
@@ -168,7 +168,7 @@ pub fn signer<'a>(
     let from = part.from;
     let to = part.to;
     *which = of;
-    if of == 1 {
+    if (verdict.number == 0) & (of == 1) {
         return &chuid[from..to];
     }
     &biometric[from..to]
