@@ -1,4 +1,4 @@
--- Demand 1, of all eight calls. Assumes nothing.
+-- Demand 1, of all nine calls. Assumes nothing.
 use Prim.Native.Nat.{ℕ, _+_, _≤_}
 use mathlib.Core.Logic.{_⊎_, inl, inr}
 use mathlib.Core.Path.{_≡_, refl, sym, ap, _∙_}
@@ -37,6 +37,7 @@ use Rattle.prosianek.proofs.Checking.{answered}
 use Rattle.prosianek.proofs.Decoding.{is-decoded, decoded-else}
 use Rattle.promises.specs.Demands.{Numbered, Clean, Demand1}
 use Rattle.promises.proofs.Listing.{lists-answer, points-answer, lists-clean, points-clean, no-counts}
+use Rattle.promises.proofs.Signing.{signer-answer}
 use Rattle.promises.proofs.Rooms.{answer, Fits, left-nothing, left-text, clean}
 
 -- ---- every number is of 01's table
@@ -119,6 +120,7 @@ demand-1 = record {
   report-answers = λ kind today c before. (_, _, record { leaves = answer (reportOutput kind today c (length before)) before });
   lists-answers = λ today c before b. lists-answer b before;
   points-answers = λ today c before b. points-answer b before;
+  signer-answers = signer-answer;
   decode-answers = λ s b. (decoded s, is-decoded s b refl, decoded-numbered s);
   encode-answers = λ n before. (_, _, record { leaves = record { answer = refl; room = refl } });
   check-clean = λ kind today c before after r h. check-clean (h .says);

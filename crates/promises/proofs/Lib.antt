@@ -1,5 +1,6 @@
 pub mod Rooms
 pub mod Listing
+pub mod Signing
 pub mod Demand1
 pub mod Demand2
 pub mod Demand3

@@ -17,7 +17,10 @@ use Rattle.prosianek.proofs.Decoding.{decoded-once}
 use Rattle.capi.specs.Calls.{numbersOf}
 use Rattle.points.specs.declared.Listed.{Listed}
 use Rattle.promises.specs.Demands.{Settled, SettledForC}
+use Rattle.signer.specs.Signer.{Signed}
+use Rattle.signer.proofs.Once.{says-once}
 use Rattle.promises.proofs.Listing.{lists-once, points-once}
+use Rattle.promises.proofs.Signing.{signer-once}
 
 pub settled : Settled
 settled = record {
@@ -36,6 +39,7 @@ settled = record {
   one-report = λ kind today c before₁ before₂ after₁ after₂ r₁ r₂ h a b. settled-output _ before₁ before₂ h (a .leaves) (rw h (b .leaves));
   one-lists = λ today c before₁ before₂ after₁ after₂ r₁ r₂ y e a b. lists-once y before₁ before₂ after₁ after₂ r₁ r₂ e (a .fills) (b .fills);
   one-points = λ today c before₁ before₂ after₁ after₂ r₁ r₂ y e a b. points-once y before₁ before₂ after₁ after₂ r₁ r₂ e (a .fills) (b .fills);
+  one-signer = λ kind today chuid biometric at own-at n₁ n₂ p₁ p₂ t₁ t₂ w₁ w₂ part₁ part₂ bytes₁ bytes₂ y z. signer-once y z;
   one-decode = λ s r₁ r₂. decoded-once s;
   one-encode = λ n before₁ before₂ after₁ after₂ k₁ k₂ h a b. (
     a .leaves .answer ∙ rw h (sym (b .leaves .answer)),
@@ -94,6 +98,15 @@ settled-for-c = record {
         ap (λ (r : Listed). r .first) e,
         ap (λ (r : Listed). r .second) e,
         f,
+      );
+  one-signer = λ kind today chuid biometric n₁ n₂ p₁ p₂ t₁ t₂ w₁ w₂ o₁ o₂ l₁ l₂ y z a b.
+      let e = says-once y z (a .says) (b .says) in (
+        a .number-is ∙ ap (λ (s : Signed). s .verdict .number) e ∙ sym (b .number-is),
+        a .place-is ∙ ap (λ (s : Signed). s .verdict .place) e ∙ sym (b .place-is),
+        same-tag (a .tag-is) (b .tag-is) (ap (λ (s : Signed). s .verdict .tag) e),
+        a .which-is ∙ ap (λ (s : Signed). s .which) e ∙ sym (b .which-is),
+        a .offset-is ∙ ap (λ (s : Signed). s .offset) e ∙ sym (b .offset-is),
+        a .size-is ∙ ap (λ (s : Signed). length (s .bytes)) e ∙ sym (b .size-is),
       );
   one-decode = λ s n₁ n₂ nine₁ nine₂ x y.
       let e = decoded-once s (x .answers) (y .answers) in

@@ -1,7 +1,7 @@
--- The user's three demands, in the user's order and words, as statements about the eight calls of the door (`Checks`, `Writes`, `Views`, `Reports`, `Lists`,
--- `Points`, `Decodes`, `Encodes`: what a call answers and leaves; `Judges`: the verdict that a check gives). Each is a record of statements, and `proofs/` has
--- the theorem for each: `demand-1`, `demand-2`, `demand-3`; `at-the-desk`, the third of what the desk program prints; `no-long-report` and `as-a-list`, what
--- 2026-12 and 2026-10 ask for; `settled` and `settled-for-c`, that no answer is left open.
+-- The user's three demands, in the user's order and words, as statements about the nine calls of the door (`Checks`, `Writes`, `Views`, `Reports`, `Lists`,
+-- `Points`, `Signers`, `Decodes`, `Encodes`: what a call answers and leaves; `Judges`: the verdict that a check gives). Each is a record of statements, and
+-- `proofs/` has the theorem for each: `demand-1`, `demand-2`, `demand-3`; `at-the-desk`, the third of what the desk program prints; `no-long-report`,
+-- `as-a-list` and `whose-certificate`, what 2026-12, 2026-10 and 2026-11 ask for; `settled` and `settled-for-c`, that no answer is left open.
 --
 -- A room is `before` when it is lent and `after` when it comes back. `Bytes c` says that each number of c is below 256, as it is in every slice that a
 -- program can give.
@@ -23,7 +23,7 @@ use Rattle.fascn.specs.declared.Decoded.{Decoded}
 use Rattle.verdicts.specs.Verdicts.{numberOf, noTag, tagNumber, outright, found}
 use Rattle.verdicts.specs.Output.{refusal, doneOf}
 use Rattle.verdicts.specs.declared.Fault.{Fault}
-use Rattle.verdicts.specs.declared.Fault.the-variants.{UnknownKind, NoDate, SmallRoom, LargeContainer, NoElement, BadFascn}
+use Rattle.verdicts.specs.declared.Fault.the-variants.{UnknownKind, NoDate, SmallRoom, LargeContainer, NoElement, BadFascn, FascnDiffer, BiometricBlock, ChuidBlock, NeitherHolds}
 use Rattle.verdicts.specs.declared.Tag.{Tag}
 use Rattle.verdicts.specs.declared.Tag.the-variants.{NoTag, Of}
 use Rattle.verdicts.specs.declared.Finding.{Finding}
@@ -46,9 +46,13 @@ use Rattle.points.specs.Points.{pointBytes, HasPoints}
 use Rattle.points.specs.Calls.{nothing, entries, Five, five, listsOf, HoldsEach, refusedBy, counted}
 use Rattle.points.specs.declared.Point.{Point}
 use Rattle.points.specs.declared.Listed.{Listed}
-use Rattle.prosianek.specs.Calls.{Judges, Checks, Writes, Views, Reports, Lists, Points, Decodes, Encodes}
+use Rattle.der.specs.Der.{Item, derBytes}
+use Rattle.blocks.specs.Block as block
+use Rattle.blocks.specs.Block.{SignedData, IsBlock}
+use Rattle.signer.specs.Signer.{Chuid, IsBiometric, Biometric, NoBlock, HoldsNone, Holding}
+use Rattle.prosianek.specs.Calls.{Judges, Checks, Writes, Views, Reports, Lists, Points, Signers, Decodes, Encodes}
 use Rattle.printout.specs.Printout.{refusedText, printed, kindText, Asks}
-use Rattle.capi.specs.Calls.{CChecks, CWrites, CViews, CReports, CLists, CDecodes, CEncodes}
+use Rattle.capi.specs.Calls.{CChecks, CWrites, CViews, CReports, CLists, CSigners, CDecodes, CEncodes}
 
 -- ---- Demand 1. "Every byte string, date and room size gets an answer, and every call ends. Bad input is refused by number, without the caller having
 -- checked it. A refusal leaves the lent output room all zeros; a success leaves zeros after the last byte of output."
@@ -88,6 +92,8 @@ pub record Demand1 : Type 0 where
   pub report-answers : (kind today : ℕ) (c before : List ℕ) → (after : List ℕ) × (r : Done) × Reports kind today c before after r
   pub lists-answers : (today : ℕ) (c : List ℕ) (before : Five) → Bytes c → (after : Five) × (r : Listed) × Lists today c before after r
   pub points-answers : (today : ℕ) (c : List ℕ) (before : List Point) → Bytes c → (after : List Point) × (r : Listed) × Points today c before after r
+  pub signer-answers : (kind today : ℕ) (chuid biometric : List ℕ) (at own-at : ℕ × ℕ) → Bytes chuid → Bytes biometric
+      → (number place tag which : ℕ) × (part : ℕ × ℕ) × (bytes : List ℕ) × Signers kind today chuid biometric at own-at number place tag which part bytes × Numbered number
   pub decode-answers : (s : List ℕ) → Bytes s → (r : Decoded) × Decodes s r × Numbered (r .number)
   pub encode-answers : (n : Numbers) (before : List ℕ) → (after : List ℕ) × (number : ℕ) × Encodes n before after number
   -- and it leaves a lent room clean: a check refuses by its verdict, and by the number beside it
@@ -346,6 +352,68 @@ pub record AsAList : Type 0 where
       → (at : ℕ) × ((i : ℕ) → i < r .first → part c (at + 6 * i) 6 ≡ pointBytes (getD after i nothing))
       × ((i : ℕ) → i < r .second → part c (at + 6 * r .first + 6 + 6 * i) 6 ≡ pointBytes (getD after (r .first + i) nothing))
 
+-- ---- 2026-11. "The signer's certificate stands in the biometric's own signature block or, if that block has none, in the CHUID's 3E. Given both containers,
+-- hand back the certificate as a part of the one it lies in, and say which. .. The biometric's block is tried first. The two containers must carry the same
+-- FASC-N. Both containers are checked first, CHUID before biometric, and a refusal returns an empty part; one from a check says which container, others say
+-- neither. Refusals: 1 if the second is not FINGERS, FACE or iris, before all; then, after both checks, in this order: 28, FASC-N differ; 29, biometric block is
+-- no SignedData; 30, CHUID block needed and is none; 31, neither holds a certificate."
+
+-- of one call with a CHUID that stands at `at` and a biometric that stands at `own-at`, a block of memory and an offset each
+module _ (kind today : ℕ) (chuid biometric : List ℕ) (at own-at : ℕ × ℕ) (number place tag which : ℕ) (part : ℕ × ℕ) (bytes : List ℕ) where
+  -- it is refused by its own number: "others say neither"
+  abbrev pub RefusedBy : Fault → Type 0
+  RefusedBy f = (number ≡ numberOf f) × (place ≡ 0) × (tag ≡ noTag) × (which ≡ 0)
+
+  -- a check's verdict is handed on, and "one from a check says which container"
+  abbrev pub HandsOn : Verdict → ℕ → Type 0
+  HandsOn v w = (number ≡ v .number) × (place ≡ v .place) × (tag ≡ tagNumber (v .tag)) × (which ≡ w)
+
+  -- the certificate c is handed out: it lies in the container w, at an offset of it
+  abbrev pub Finds : ℕ → ℕ × ℕ → ℕ → Item → Type 0
+  Finds w holder offset c = (number ≡ 0) × (place ≡ 0) × (tag ≡ noTag) × (which ≡ w) × (part ≡ (holder .0, holder .1 + offset)) × (bytes ≡ derBytes c)
+
+  -- the part has the bytes that stand there in the container c, which stands at `holder`
+  abbrev pub LiesIn : List ℕ → ℕ × ℕ → ℕ → Type 0
+  LiesIn c holder offset = (part ≡ (holder .0, holder .1 + offset)) × (offset + length bytes ≤ length c) × (take (length bytes) (drop offset c) ≡ bytes)
+
+  pub record OneCall : Type 0 where
+    -- "1 if the second is not FINGERS, FACE or iris, before all"; then the checks, "CHUID before biometric"
+    pub kind-first : (IsBiometric kind → ⊥) → RefusedBy UnknownKind
+    pub chuid-refused : IsBiometric kind → (v : Verdict) → Judges 2 today chuid v → (v .number ≡ 0 → ⊥) → HandsOn v 1
+    pub biometric-refused : IsBiometric kind → (vs : Values) → Conforms 2 today vs chuid → (v : Verdict) → Judges kind today biometric v → (v .number ≡ 0 → ⊥) → HandsOn v 2
+    -- "28, FASC-N differ"
+    pub fascn-differ : IsBiometric kind → (f u g w : List ℕ) (n m : ℕ) → Chuid today chuid f u n → Biometric kind today biometric g w m → (f ≡ g → ⊥) → RefusedBy FascnDiffer
+    -- "29, biometric block is no SignedData", whatever the CHUID holds
+    pub no-block : IsBiometric kind → (f u w : List ℕ) (n m : ℕ) → Chuid today chuid f u n → Biometric kind today biometric f w m → NoBlock w → RefusedBy BiometricBlock
+    -- "The biometric's block is tried first": where it holds a certificate, that is handed out, whatever 3E is
+    pub in-biometric : IsBiometric kind → (f u w : List ℕ) (n m : ℕ) → Chuid today chuid f u n → Biometric kind today biometric f w m
+        → (s : SignedData) (c : Item) → Holding w s c → Finds 2 own-at (m + block.place s) c
+    -- "or, if that block has none, in the CHUID's 3E"; "30, CHUID block needed and is none; 31, neither holds a certificate"
+    pub in-chuid : IsBiometric kind → (f u w : List ℕ) (n m : ℕ) → Chuid today chuid f u n → Biometric kind today biometric f w m → HoldsNone w
+        → (s : SignedData) (c : Item) → Holding u s c → Finds 1 at (n + block.place s) c
+    pub block-needed : IsBiometric kind → (f u w : List ℕ) (n m : ℕ) → Chuid today chuid f u n → Biometric kind today biometric f w m → HoldsNone w → NoBlock u → RefusedBy ChuidBlock
+    pub none-held : IsBiometric kind → (f u w : List ℕ) (n m : ℕ) → Chuid today chuid f u n → Biometric kind today biometric f w m → HoldsNone w → HoldsNone u → RefusedBy NeitherHolds
+    -- "a refusal returns an empty part": the biometric's, at its start
+    pub refused-empty : (number ≡ 0 → ⊥) → (part ≡ own-at) × (bytes ≡ [])
+    -- "as a part of the one it lies in, and say which": the bytes that are handed out stand in the container that is named
+    pub lies-there : number ≡ 0 → (offset : ℕ) × (((which ≡ 1) × LiesIn chuid at offset) ⊎ ((which ≡ 2) × LiesIn biometric own-at offset))
+
+pub record WhoseCertificate : Type 0 where
+  -- every CHUID that conforms carries one FASC-N and one block, and so does every biometric
+  pub chuid-carries : (today : ℕ) (vs : Values) (c : List ℕ) → Bytes c → Conforms 2 today vs c → (f : List ℕ) × (u : List ℕ) × (n : ℕ) × Chuid today c f u n
+  pub only-chuid : (today : ℕ) (c : List ℕ) → Bytes c → (f u g w : List ℕ) (n m : ℕ) → Chuid today c f u n → Chuid today c g w m → (f ≡ g) × (u ≡ w) × (n ≡ m)
+  pub biometric-carries : (kind today : ℕ) (vs : Values) (c : List ℕ) → Bytes c → IsBiometric kind → Conforms kind today vs c
+      → (f : List ℕ) × (u : List ℕ) × (n : ℕ) × Biometric kind today c f u n
+  pub only-biometric : (kind today : ℕ) (c : List ℕ) → Bytes c → (f u g w : List ℕ) (n m : ℕ) → Biometric kind today c f u n → Biometric kind today c g w m
+      → (f ≡ g) × (u ≡ w) × (n ≡ m)
+  -- bytes are at most one block: its item, and so its first certificate, is the only one; and that stands at its place in the block
+  pub only-block : (v : List ℕ) (s u : SignedData) → IsBlock v s → IsBlock v u → s ≡ u
+  pub block-stands : (v : List ℕ) (s : SignedData) (c : Item) → Holding v s c
+      → (block.place s + length (derBytes c) ≤ length v) × (take (length (derBytes c)) (drop (block.place s) v) ≡ derBytes c)
+  -- what is answered
+  pub one-call : (kind today : ℕ) (chuid biometric : List ℕ) (at own-at : ℕ × ℕ) (number place tag which : ℕ) (part : ℕ × ℕ) (bytes : List ℕ) → Bytes chuid → Bytes biometric
+      → Signers kind today chuid biometric at own-at number place tag which part bytes → OneCall kind today chuid biometric at own-at number place tag which part bytes
+
 -- ---- "For each public call the contract determines number, place, returned part and each byte of lent room, on every input and every refusal. Any two
 -- results that satisfy it are shown equal." The tag is a part of the answer as the place is. Rooms of one length may have held anything before. (A returned part has a block, an offset and bytes; the ghost
 -- name of its reference is no value, and is left open.)
@@ -364,6 +432,9 @@ pub record Settled : Type 0 where
       → Lists today c before₁ after₁ r₁ → Lists today c before₂ after₂ r₂ → (r₁ ≡ r₂) × (after₁ ≡ after₂)
   pub one-points : (today : ℕ) (c : List ℕ) (before₁ before₂ after₁ after₂ : List Point) (r₁ r₂ : Listed) → Bytes c → length before₁ ≡ length before₂
       → Points today c before₁ after₁ r₁ → Points today c before₂ after₂ r₂ → (r₁ ≡ r₂) × (after₁ ≡ after₂)
+  pub one-signer : (kind today : ℕ) (chuid biometric : List ℕ) (at own-at : ℕ × ℕ) (n₁ n₂ p₁ p₂ t₁ t₂ w₁ w₂ : ℕ) (part₁ part₂ : ℕ × ℕ) (bytes₁ bytes₂ : List ℕ)
+      → Bytes chuid → Bytes biometric → Signers kind today chuid biometric at own-at n₁ p₁ t₁ w₁ part₁ bytes₁ → Signers kind today chuid biometric at own-at n₂ p₂ t₂ w₂ part₂ bytes₂
+      → (n₁ ≡ n₂) × (p₁ ≡ p₂) × (t₁ ≡ t₂) × (w₁ ≡ w₂) × (part₁ ≡ part₂) × (bytes₁ ≡ bytes₂)
   pub one-decode : (s : List ℕ) (r₁ r₂ : Decoded) → Decodes s r₁ → Decodes s r₂ → r₁ ≡ r₂
   pub one-encode : (n : Numbers) (before₁ before₂ after₁ after₂ : List ℕ) (k₁ k₂ : ℕ) → length before₁ ≡ length before₂
       → Encodes n before₁ after₁ k₁ → Encodes n before₂ after₂ k₂ → (k₁ ≡ k₂) × (after₁ ≡ after₂)
@@ -383,6 +454,9 @@ pub record SettledForC : Type 0 where
   pub one-lists : (today : ℕ) (c : List ℕ) (before₁ before₂ after₁ after₂ : Five) (n₁ n₂ p₁ p₂ t₁ t₂ f₁ f₂ s₁ s₂ : ℕ) → Bytes c → sizes before₁ ≡ sizes before₂
       → CLists today c before₁ after₁ n₁ p₁ t₁ f₁ s₁ → CLists today c before₂ after₂ n₂ p₂ t₂ f₂ s₂
       → (n₁ ≡ n₂) × (p₁ ≡ p₂) × (t₁ ≡ t₂) × (f₁ ≡ f₂) × (s₁ ≡ s₂) × (after₁ ≡ after₂)
+  pub one-signer : (kind today : ℕ) (chuid biometric : List ℕ) (n₁ n₂ p₁ p₂ t₁ t₂ w₁ w₂ o₁ o₂ l₁ l₂ : ℕ) → Bytes chuid → Bytes biometric
+      → CSigners kind today chuid biometric n₁ p₁ t₁ w₁ o₁ l₁ → CSigners kind today chuid biometric n₂ p₂ t₂ w₂ o₂ l₂
+      → (n₁ ≡ n₂) × (p₁ ≡ p₂) × (t₁ ≡ t₂) × (w₁ ≡ w₂) × (o₁ ≡ o₂) × (l₁ ≡ l₂)
   pub one-decode : (s : List ℕ) (n₁ n₂ : ℕ) (nine₁ nine₂ : List ℕ) → CDecodes s n₁ nine₁ → CDecodes s n₂ nine₂ → (n₁ ≡ n₂) × (nine₁ ≡ nine₂)
   pub one-encode : (nine before₁ before₂ after₁ after₂ : List ℕ) (n₁ n₂ : ℕ) → length before₁ ≡ length before₂
       → CEncodes nine before₁ after₁ n₁ → CEncodes nine before₂ after₂ n₂ → (n₁ ≡ n₂) × (after₁ ≡ after₂)

@@ -1,8 +1,7 @@
 -- What is said of two containers, computed: so there is an answer of every two. Assumes nothing.
 use Prim.Native.Nat.{ℕ, _+_, _-_}
-use mathlib.Core.Path.{_≡_, refl, sym, ap, _∙_}
-use mathlib.Core.Logic.{inl, inr}
-use mathlib.Core.Bool.{Bool, true, false, cond, false≢true}
+use mathlib.Core.Path.{_≡_, refl, sym, _∙_}
+use mathlib.Core.Bool.{cond, false≢true}
 use mathlib.Core.List.{List}
 use native.Mathlib.Nat.{add-sub-cancel-left}
 use lib.ListN.{length, take, drop}
@@ -26,7 +25,7 @@ use Rattle.container.specs.Container.{Values, Conforms}
 use Rattle.container.specs.Reading.{Parsed, values, fault, parsed, outcomeOf, outcome}
 use Rattle.container.proofs.Promise.{exact, named}
 use Rattle.views.specs.Views.{viewed}
-use Rattle.signer.specs.Signer.{Signed, refusal, found, Chuid, Biometric, IsBiometric, InBlocks, own-none, own-holds, block-none, neither, block-holds, Compared, other, Says, no-biometric, chuid-breaks, biometric-breaks, both-conform}
+use Rattle.signer.specs.Signer.{Signed, refusal, found, IsBiometric, InBlocks, own-none, own-holds, block-none, neither, block-holds, Compared, other, Says, no-biometric, chuid-breaks, biometric-breaks, both-conform}
 use Rattle.signer.specs.Signer as spec
 use Rattle.signer.specs.Locating.{isBiometric}
 use Rattle.signer.proofs.Elements.{element-of, within}

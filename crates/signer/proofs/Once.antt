@@ -27,13 +27,13 @@ module _ {kind today : ℕ} {c f g u v : List ℕ} {at to : ℕ} (b : Bytes c) (
   value : x .value ≡ y .value
   value = one-value b (x .value-is) (y .value-is)
 
-  one-fascn : f ≡ g
+  pub one-fascn : f ≡ g
   one-fascn = x .fascn-is ∙ ap (λ (l : List ℕ). part l 59 25) value ∙ sym (y .fascn-is)
 
-  one-own : u ≡ v
+  pub one-own : u ≡ v
   one-own = x .block-is ∙ ap (λ (l : List ℕ). drop (88 + field l 2 4) l) value ∙ sym (y .block-is)
 
-  one-own-at : at ≡ to
+  pub one-own-at : at ≡ to
   one-own-at = x .at-is ∙ rw (value, one-place b (x .value-is) (y .value-is)) (sym (y .at-is))
 
 -- ---- the two blocks

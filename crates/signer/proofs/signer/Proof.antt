@@ -1,7 +1,6 @@
 -- `signer::signer` meets its contract: the part of the container that it lies in. Assumes nothing.
 use native.Mathlib.Omega.{arith}
 use borrow.Author.Needs.{needs}
-use borrow.Author.Tests.{eq-eqb, ne-eqb}
 use Rattle.signer.proofs.Handing.{ordered, of-chuid, of-biometric}
 use Rattle.signer.proofs.signer.Statement.{statement}
 use Rattle.signer.proofs.signer.Tie as tie
