@@ -64,10 +64,14 @@ use Rattle.points.specs.Calls.{Five, HoldsEach}
 use Rattle.points.specs.declared.Point.{Point}
 use Rattle.points.proofs.Record.{pointsOf}
 use Rattle.points.proofs.Once.{says-once}
+use Rattle.views.specs.Views.{viewed}
+use Rattle.blocks.proofs.Computed.{blockOf}
+use Rattle.signer.proofs.Computed.{signedOf, says}
 use Rattle.prosianek.proofs.Checking.{answer, output, only}
 use Rattle.promises.specs.Demands.{sizes}
 use Rattle.promises.proofs.Listing.{Told, computed, computed-says}
-use Rattle.promises.specs.Examples.{Example, fascn-of, no-fascn, spells, no-length, date, no-date, kept, late, printed-date, no-printed-date, conforms, breaks, checks, writes, reports, fills-lists, fills-points, today, Holds, All, examples}
+use Rattle.promises.proofs.Signing.{as-said}
+use Rattle.promises.specs.Examples.{Example, fascn-of, no-fascn, spells, no-length, date, no-date, kept, late, printed-date, no-printed-date, conforms, breaks, checks, writes, reports, fills-lists, fills-points, signs, today, Holds, All, examples}
 
 -- ---- each row as a test
 
@@ -140,6 +144,10 @@ tested (writes kind s room number place tag c) =
 tested (reports kind c room number bytes) = sameOutput (reportOutput kind today c room) number bytes
 tested (fills-lists c rooms number place tag first second) = areBytes c && sameTold (computed (parsed 6 today c) (holdsEach rooms)) number place tag first second
 tested (fills-points c room number place tag first second) = areBytes c && sameTold (computed (parsed 6 today c) (λ n. leb n room)) number place tag first second
+tested (signs kind c d number place tag which offset bytes) =
+    let a = signedOf kind today c d in
+    areBytes c && areBytes d && eqb (a .verdict .number) number && eqb (a .verdict .place) place && sameTag (a .verdict .tag) tag && eqb (a .which) which && eqb (a .offset) offset
+    && same (a .bytes) bytes
 
 allTested : List Example → Bool
 allTested [] = true
@@ -318,6 +326,28 @@ lists-so c rooms number place tag first second t before after r q h =
     let (e, l) = says-once b (h .fills .says) (computed-says b (holdsEach rooms) (holds-each before rooms q)) in
     (e ∙ a, h .fills .left ∙ rw (l, ps))
 
+signs-so : (kind : ℕ) (c d : List ℕ) (number place : ℕ) (tag : Tag) (which offset : ℕ) (bytes : List ℕ) → tested (signs kind c d number place tag which offset bytes) ≡ true
+    → Holds (signs kind c d number place tag which offset bytes)
+unfolding tested
+signs-so kind c d number place tag which offset bytes t at own-at n p u w part l h =
+    let a = signedOf kind today c d in
+    let f =
+    all-true
+    (areBytes c ∷ areBytes d ∷ eqb (a .verdict .number) number ∷ eqb (a .verdict .place) place ∷ sameTag (a .verdict .tag) tag ∷ eqb (a .which) which ∷ eqb (a .offset) offset
+    ∷ same (a .bytes) bytes ∷ [])
+    t in
+    let b = are-bytes c (f 0) in
+    let e = are-bytes d (f 1) in
+    let x = eqb-true _ _ (f 2) in
+    let y = eqb-true _ _ (f 3) in
+    let z = same-tag _ _ (f 4) in
+    let v = eqb-true _ _ (f 5) in
+    let o = eqb-true _ _ (f 6) in
+    let s = same-eq (a .bytes) bytes (f 7) in
+    let q : a ≡ record { verdict = record { number = number; place = place; tag = tag }; which = which; offset = offset; bytes = bytes } =
+    λ i. record { verdict = record { number = x i; place = y i; tag = z i }; which = v i; offset = o i; bytes = s i } in
+    as-said b e h _ (rw q at (says kind today c d b e))
+
 so : (e : Example) → tested e ≡ true → Holds e
 unfolding tested isNone
 so (fascn-of s n) t = let c = and-true (inRange n) (same s (encoded n)) t in record { in-range = range-exact n .0 (c .0); written = same-eq s (encoded n) (c .1) }
@@ -345,6 +375,7 @@ so (writes kind s room number place tag c) t = writes-so kind s room number plac
 so (reports kind c room number bytes) t = reports-so kind c room number bytes t
 so (fills-lists c rooms number place tag first second) t = lists-so c rooms number place tag first second t
 so (fills-points c room number place tag first second) t = points-so c room number place tag first second t
+so (signs kind c d number place tag which offset bytes) t = signs-so kind c d number place tag which offset bytes t
 
 all-so : (es : List Example) → allTested es ≡ true → All es
 unfolding allTested
@@ -352,7 +383,7 @@ all-so [] t = tt
 all-so (e ∷ es) t = let c = and-true (tested e) (allTested es) t in (so e (c .0), all-so es (c .1))
 
 all-tested : allTested examples ≡ true
-unfolding allTested tested areBytes isNone isLength sameTag sameOutput samePoint samePoints sameTold holdsEach pointsOf examples ones digits exclusive values checked characters encoded valuesOf framed decoded isFascn lengthBytes readLength daysIn exists isDate dateOf twoDigits monthNumber isPrintedDate isMoment isUuid isPolicy isText ended isCreator pointHolds pointsHold viewHead fills whole extent recordHead isMinutiae informed blockExtent faceHead isFacial dateHolds marksHold shapeHolds irisExtent irisHead isIris readDer headOf items walked certificate ruleOf element located parsed outcome sheetOf writeOutput fixed decimal hex2 hexTag cardPart elementLines elementCount openPart reportText reportOutput
+unfolding allTested tested areBytes isNone isLength sameTag sameOutput samePoint samePoints sameTold holdsEach pointsOf examples ones digits exclusive values checked characters encoded valuesOf framed decoded isFascn lengthBytes readLength daysIn exists isDate dateOf twoDigits monthNumber isPrintedDate isMoment isUuid isPolicy isText ended isCreator pointHolds pointsHold viewHead fills whole extent recordHead isMinutiae informed blockExtent faceHead isFacial dateHolds marksHold shapeHolds irisExtent irisHead isIris readDer headOf items walked certificate ruleOf element located parsed outcome sheetOf writeOutput fixed decimal hex2 hexTag cardPart elementLines elementCount openPart reportText reportOutput viewed blockOf signedOf
 all-tested = refl
 
 pub examples-hold : All examples

@@ -1,9 +1,9 @@
--- The examples of document 01, P1 to P14, those of requests 2026-04, 2026-13, 2026-02, 2026-01, 2026-03, 2026-05, 2026-06, 2026-12 and 2026-10, and further rows, as one table: what each row says, over the rules themselves, and the table.
+-- The examples of document 01, P1 to P14, those of requests 2026-04, 2026-13, 2026-02, 2026-01, 2026-03, 2026-05, 2026-06, 2026-12, 2026-10 and 2026-11, and further rows, as one table: what each row says, over the rules themselves, and the table.
 use Prim.Native.Nat.{ℕ, zero, suc, _+_}
 use mathlib.Core.Path.{_≡_}
 use mathlib.Core.Option.{Option, none, some}
 use mathlib.Core.List.{List, [], _∷_, _++_}
-use lib.ListN.{length, getD, replicate}
+use lib.ListN.{length, take, drop, getD, replicate}
 use Rattle.laws.specs.Ascii.{ascii}
 use Rattle.laws.specs.Layout.{number}
 use Rattle.laws.specs.Room.{filled}
@@ -24,7 +24,8 @@ use Rattle.sheet.specs.declared.Checked.{Checked}
 use Rattle.points.specs.Calls.{entries, Five, listsOf}
 use Rattle.points.specs.declared.Point.{Point}
 use Rattle.points.specs.declared.Listed.{Listed}
-use Rattle.prosianek.specs.Calls.{Checks, Writes, Reports, Lists, Points}
+use Rattle.signer.specs.Signer.{Answers}
+use Rattle.prosianek.specs.Calls.{Checks, Writes, Reports, Lists, Points, Signers}
 use Rattle.promises.specs.Demands.{sizes}
 
 -- ---- what a row of the table says
@@ -47,6 +48,7 @@ pub data Example : Type 0 where
   reports : ℕ → List ℕ → ℕ → ℕ → List ℕ → Example
   fills-lists : List ℕ → List ℕ → ℕ → ℕ → Tag → List Point → List Point → Example
   fills-points : List ℕ → ℕ → ℕ → ℕ → Tag → List Point → List Point → Example
+  signs : ℕ → List ℕ → List ℕ → ℕ → ℕ → Tag → ℕ → ℕ → List ℕ → Example
 
 -- "With today 20260301"
 abbrev pub today : ℕ
@@ -80,6 +82,10 @@ Holds (fills-lists c rooms number place tag first second) = (before after : Five
 -- and so does a list of so many points
 Holds (fills-points c room number place tag first second) = (before after : List Point) (r : Listed) → length before ≡ room → Points today c before after r
     → (r ≡ record { verdict = record { number = number; place = place; tag = tag }; first = length first; second = length second }) × (after ≡ entries (first ++ second) room)
+-- the signer of a CHUID and a biometric of this kind, wherever they stand, answers this number, place and tag and which container, and hands out these bytes at an
+-- offset of the one that they lie in
+Holds (signs kind c d number place tag which offset bytes) = (at own-at : ℕ × ℕ) (n p t w : ℕ) (part : ℕ × ℕ) (b : List ℕ) → Signers kind today c d at own-at n p t w part b
+    → Answers (record { verdict = record { number = number; place = place; tag = tag }; which = which; offset = offset; bytes = bytes }) at own-at n p t w part b
 
 abbrev pub All : List Example → Type 0
 All [] = Unit {0}
@@ -317,6 +323,50 @@ certified kind certificate info uid = container kind (some certificate ∷ some 
 -- with nothing but the certificate
 abbrev bare : List ℕ → List ℕ
 bare certificate = certified 8 certificate 0x00 none
+
+-- 2026-11: a certificate of eight bytes and one of nine; the items of a SignedData before its certificates; a block with these parts, its object identifier's
+-- last byte given, and one with these fields
+abbrev c8 : List ℕ
+c8 = three 0x30 null
+
+abbrev c9 : List ℕ
+c9 = three 0x30 (item 0x02 (1 ∷ []))
+
+abbrev threeParts : List ℕ
+threeParts = item 0x02 (3 ∷ []) ++ (item 0x31 [] ++ item 0x30 (item 0x06 (0x2A ∷ [])))
+
+abbrev blockOf : ℕ → List ℕ → List ℕ
+blockOf last parts =
+    item 0x30 (item 0x06 (0x2A ∷ 0x86 ∷ 0x48 ∷ 0x86 ∷ 0xF7 ∷ 0x0D ∷ 0x01 ∷ 0x07 ∷ last ∷ []) ++ item 0xA0 (item 0x30 parts))
+
+abbrev cms : List ℕ → List ℕ
+cms fields = blockOf 0x02 (threeParts ++ (fields ++ item 0x31 []))
+
+-- a CHUID with this value of 3E; biometrics with this FASC-N and this block
+abbrev chuidWith : List ℕ → List ℕ
+chuidWith block = container 2 (none ∷ some (p1 0xEB) ∷ none ∷ none ∷ some uuid ∷ some expiry ∷ none ∷ some block ∷ some [] ∷ [])
+
+abbrev fingersWith : List ℕ → List ℕ → List ℕ
+fingersWith fascn block = container 6 (some (cbeffHead 38 (length block) 0x001B 0x0201 0x08 0x80 0x64 (fascn ++ replicate 4 0) ++ (record38 ++ block)) ∷ some [] ∷ [])
+
+abbrev faceWith : List ℕ → List ℕ
+faceWith block = container 7 (some (cbeffHead 52 (length block) 0x001B 0x0501 0x02 0x20 0x64 cbeffEnd ++ (portrait 52 38 0 (about 1 0 1 2) ++ block)) ∷ some [] ∷ [])
+
+abbrev irisSigned : List ℕ → List ℕ
+irisSigned block = container 12 (some (cbeffHead 68 (length block) 0x0101 0x0009 0x10 0x40 0x64 cbeffEnd ++ (irisOf 0 ++ block)) ∷ some [] ∷ [])
+
+-- a FASC-N that differs from P1's in one digit; a CHUID and a FINGERS with a certificate; a FINGERS whose block has none
+abbrev p8 : List ℕ
+p8 = take 19 (p1 0xEB) ++ (0x22 ∷ 0x84 ∷ 0x11 ∷ 0x92 ∷ 0x43 ∷ 0xF5 ∷ [])
+
+abbrev chuidC8 : List ℕ
+chuidC8 = chuidWith (cms (item 0xA0 c8))
+
+abbrev fingersC9 : List ℕ
+fingersC9 = fingersWith (p1 0xEB) (cms (item 0xA0 (c9 ++ c8)))
+
+abbrev fingersNone : List ℕ
+fingersNone = fingersWith (p1 0xEB) (cms [])
 
 -- 2026-12: a container of each kind with the longest report: every element, each as long as the digits of its length can tell
 abbrev longCcc : List ℕ
@@ -681,4 +731,35 @@ examples =
     ∷ fills-lists typeThree (0 ∷ 1 ∷ 1 ∷ 1 ∷ 1 ∷ []) 22 3 (Of 0xBC) [] []
     ∷ fills-points (face 0x64) 9 21 3 (Of 0xBC) [] []
     ∷ fills-points [] 9 10 0 NoTag [] []
+    -- 2026-11: the first item of the biometric's field; whatever 3E is; also in a container in longer forms
+    ∷ signs 6 chuidC8 fingersC9 0 0 NoTag 2 161 c9
+    ∷ signs 6 (chuidWith (ascii "X")) fingersC9 0 0 NoTag 2 161 c9
+    ∷ signs 6 chuidC8 (0x53 ∷ 0x82 ∷ 0x00 ∷ drop 2 fingersC9) 0 0 NoTag 2 162 c9
+    -- the biometric's block has no field, or an empty one: the CHUID's
+    ∷ signs 6 chuidC8 fingersNone 0 0 NoTag 1 88 c8
+    ∷ signs 6 chuidC8 (fingersWith (p1 0xEB) (cms (item 0xA0 [] ++ item 0xA1 []))) 0 0 NoTag 1 88 c8
+    -- the first item may have any tag; FACE and IRIS too
+    ∷ signs 6 chuidC8 (fingersWith (p1 0xEB) (cms (item 0xA0 (item 0x02 (1 ∷ []) ++ c8)))) 0 0 NoTag 2 161 (item 0x02 (1 ∷ []))
+    ∷ signs 7 chuidC8 (faceWith (cms (item 0xA0 c8 ++ item 0xA1 null))) 0 0 NoTag 2 175 c8
+    ∷ signs 12 chuidC8 (irisSigned (cms (item 0xA0 c8))) 0 0 NoTag 2 191 c8
+    -- sixteen levels, and seventeen
+    ∷ signs 6 chuidC8 (fingersWith (p1 0xEB) (blockOf 0x02 (threeParts ++ (item 0xA0 c8 ++ item 0x31 (nested 11 null))))) 0 0 NoTag 2 161 c8
+    ∷ signs 6 chuidC8 (fingersWith (p1 0xEB) (blockOf 0x02 (threeParts ++ (item 0xA0 c8 ++ item 0x31 (nested 12 null))))) 29 0 NoTag 0 0 []
+    -- 31, and 30: an empty 3E, and a byte behind its one item
+    ∷ signs 6 (chuidWith (cms [])) fingersNone 31 0 NoTag 0 0 []
+    ∷ signs 6 (chuidWith []) fingersNone 30 0 NoTag 0 0 []
+    ∷ signs 6 (chuidWith (cms (item 0xA0 c8) ++ (0 ∷ []))) fingersNone 30 0 NoTag 0 0 []
+    -- 29, though the CHUID has one: no item; another object identifier; crls before certificates; no signerInfos; a part behind them; no version; an indefinite length
+    ∷ signs 6 chuidC8 (fingersWith (p1 0xEB) (ascii "SIG")) 29 0 NoTag 0 0 []
+    ∷ signs 6 chuidC8 (fingersWith (p1 0xEB) (blockOf 0x01 (threeParts ++ (item 0xA0 c8 ++ item 0x31 [])))) 29 0 NoTag 0 0 []
+    ∷ signs 6 chuidC8 (fingersWith (p1 0xEB) (cms (item 0xA1 [] ++ item 0xA0 c8))) 29 0 NoTag 0 0 []
+    ∷ signs 6 chuidC8 (fingersWith (p1 0xEB) (blockOf 0x02 (threeParts ++ item 0xA0 c8))) 29 0 NoTag 0 0 []
+    ∷ signs 6 chuidC8 (fingersWith (p1 0xEB) (blockOf 0x02 (threeParts ++ (item 0x31 [] ++ null)))) 29 0 NoTag 0 0 []
+    ∷ signs 6 chuidC8 (fingersWith (p1 0xEB) (blockOf 0x02 (drop 3 threeParts ++ item 0x31 []))) 29 0 NoTag 0 0 []
+    ∷ signs 6 chuidC8 (fingersWith (p1 0xEB) (0x30 ∷ 0x80 ∷ (drop 2 (cms []) ++ (0 ∷ 0 ∷ [])))) 29 0 NoTag 0 0 []
+    -- 28 comes before 29; the checks before that, the CHUID's first; 1 before all
+    ∷ signs 6 chuidC8 (fingersWith p8 (ascii "SIG")) 28 0 NoTag 0 0 []
+    ∷ signs 6 chuidC8 (face 0x64) 21 3 (Of 0xBC) 2 0 []
+    ∷ signs 6 (chuidOf (element 0x30 (p1 0xEB) ++ element 0x34 (replicate 16 0))) (face 0x64) 18 29 (Of 0x34) 1 0 []
+    ∷ signs 2 [] chuidC8 1 0 NoTag 0 0 []
     ∷ []
