@@ -1,5 +1,5 @@
 -- What is read of some bytes, computed: so there is an answer of every list of bytes. Assumes nothing.
-use Prim.Native.Nat.{ℕ, _+_, _≤_, _<_}
+use Prim.Native.Nat.{ℕ, _+_, _≤_}
 use mathlib.Core.Path.{_≡_, refl}
 use mathlib.Core.Bool.{cond}
 use mathlib.Core.List.{List}
@@ -20,11 +20,11 @@ use Rattle.der.specs.declared.Walked.the-variants.{Whole, Bad as BadItem, Deep}
 use Rattle.der.proofs.Turns.{span, span-long}
 use Rattle.der.proofs.Exact.{not-bad, not-deep}
 use Rattle.blocks.specs.Block.{parts, contentInfo as contentInfoOf, place}
-use Rattle.blocks.specs.Reading.{Reads, Found, FirstFound, Tells, inParts, TellsParts, TellsItem}
+use Rattle.blocks.specs.Reading.{Reads, Found, FoundTagged, FirstFound, firstAt, Tells, inParts, TellsParts, TellsItem}
 use Rattle.blocks.specs.declared.Block.{Block}
 use Rattle.blocks.specs.declared.Block.the-variants.{Bad, Empty, Holds}
 use Rattle.blocks.specs.declared.Part.{Part}
-use Rattle.blocks.proofs.Items.{at-end, other-tag, no-head, a-leaf, an-open, none-first, leaf-first, open-first}
+use Rattle.blocks.proofs.Items.{no-head, a-leaf, an-open, at-end, other-tag, this-tag, none-first, one-first}
 use Rattle.blocks.proofs.Ways.{no-version, no-digests, no-content, no-signers, more-behind, all-there}
 use Rattle.blocks.proofs.Wrapped.{id-bytes, other-id, more-items, no-data, more-data, all-around, same-id}
 use Rattle.blocks.proofs.Exact.{no-item, an-item}
@@ -39,16 +39,14 @@ byHead at Broken = nowhere at
 byHead at (Leaf size) = record { from = at + size; to = at + size }
 byHead at (Open front size) = record { from = at + front; to = at + size }
 
-abbrev find : List ℕ → ℕ → ℕ → ℕ → Part
-find v at end t = cond (eqb at end) (nowhere at) (cond (eqb (getD v at 0) t) (byHead at (headOf (span v at end))) (nowhere at))
+abbrev next : List ℕ → ℕ → ℕ → Part
+next v at end = byHead at (headOf (span v at end))
 
-abbrev firstByHead : ℕ → Head → Block
-firstByHead from Broken = Empty
-firstByHead from (Leaf size) = Holds from (from + size)
-firstByHead from (Open front size) = Holds from (from + size)
+abbrev find : List ℕ → ℕ → ℕ → ℕ → Part
+find v at end t = cond (eqb at end) (nowhere at) (cond (eqb (getD v at 0) t) (next v at end) (nowhere at))
 
 abbrev first : List ℕ → ℕ → ℕ → Block
-first v from to = firstByHead from (headOf (span v from to))
+first v from to = let part = next v from to in cond (eqb (part .to) from) Empty (Holds from (part .to))
 
 -- what is left of two tests: that a part is there, and that it ends where it should
 abbrev there : ℕ → ℕ → Block → Block
@@ -99,26 +97,35 @@ blockOf v = byItem v (judged 16 v)
 abbrev Bounds : ℕ → ℕ → Part → Type 0
 Bounds at end r = (at ≤ r .from) × (r .from ≤ r .to) × (r .to ≤ end)
 
-module _ (v : List ℕ) (at end t : ℕ) (h : at ≤ end) (g : end ≤ length v) where
-  by-head : at < end → getD v at 0 ≡ t → (x : Head) → headOf (span v at end) ≡ x → Found v at end t (byHead at x) × Bounds at end (byHead at x)
-  by-head l e Broken q = (λ ps s. no-head v at end t ps s q, omega arith)
-  by-head l e (Leaf size) q =
+module _ (v : List ℕ) (at end : ℕ) (h : at ≤ end) (g : end ≤ length v) where
+  by-head : (x : Head) → headOf (span v at end) ≡ x → Found v at end (byHead at x) × Bounds at end (byHead at x)
+  by-head Broken q = (λ ps s. no-head v at end ps s q, omega arith)
+  by-head (Leaf size) q =
       let i = leaf-inside (span v at end) size q in
-      (λ ps s. a-leaf v at end t l e size ps s q, omega (arith, span-long v at end h g))
-  by-head l e (Open front size) q =
+      (λ ps s. a-leaf v at end size ps s q, omega (arith, span-long v at end h g))
+  by-head (Open front size) q =
       let i = open-inside (span v at end) front size q in
-      (λ ps s. an-open v at end t l e front size ps s q, omega (arith, span-long v at end h g))
+      (λ ps s. an-open v at end front size ps s q, omega (arith, span-long v at end h g))
 
-  found : Found v at end t (find v at end t) × Bounds at end (find v at end t)
-  found =
+  nexts : Found v at end (next v at end) × Bounds at end (next v at end)
+  nexts = by-head (headOf (span v at end)) refl
+
+  found : (t : ℕ) → FoundTagged v at end t (find v at end t) × Bounds at end (find v at end t)
+  found t =
       test (eqb at end)
-      (λ b. let r = cond b (nowhere at) (cond (eqb (getD v at 0) t) (byHead at (headOf (span v at end))) (nowhere at)) in Found v at end t r × Bounds at end r)
+      (λ b. let r = cond b (nowhere at) (cond (eqb (getD v at 0) t) (next v at end) (nowhere at)) in FoundTagged v at end t r × Bounds at end r)
       (λ e. (λ ps s. at-end v at end t ps s (eqb-true at end e), omega arith))
       (λ n.
       let l = eqb-false at end n in
-      test (eqb (getD v at 0) t) (λ b. let r = cond b (byHead at (headOf (span v at end))) (nowhere at) in Found v at end t r × Bounds at end r)
-      (λ e. by-head (omega arith) (eqb-true (getD v at 0) t e) (headOf (span v at end)) refl)
+      test (eqb (getD v at 0) t) (λ b. let r = cond b (next v at end) (nowhere at) in FoundTagged v at end t r × Bounds at end r)
+      (λ e. (λ ps s. this-tag v at end t (omega arith) (eqb-true (getD v at 0) t e) (next v at end) ps s (nexts .0 ps s), nexts .1))
       (λ m. (λ ps s. other-tag v at end t ps s (eqb-false (getD v at 0) t m), omega arith)))
+
+  firsts : FirstFound v at end (first v at end)
+  firsts ps s =
+      test (eqb (next v at end .to) at) (λ b. cond b Empty (Holds at (next v at end .to)) ≡ firstAt at ps)
+      (λ e. none-first v at end (next v at end) ps (nexts .0 ps s) (eqb-true _ _ e))
+      (λ e. one-first v at end (next v at end) ps (nexts .0 ps s) (eqb-false _ _ e))
 
 module _ (P : Block → Type 0) (to end : ℕ) (r : Block) where
   there-or : (to ≡ end → P Bad) → ((to ≡ end → ⊥) → P r) → P (there to end r)
@@ -127,44 +134,39 @@ module _ (P : Block → Type 0) (to end : ℕ) (r : Block) where
   ends-or : ((to ≡ end → ⊥) → P Bad) → (to ≡ end → P r) → P (ends to end r)
   ends-or f g = test (eqb to end) (λ b. P (cond b r Bad)) (λ e. g (eqb-true to end e)) (λ e. f (eqb-false to end e))
 
-by-first : (v : List ℕ) (from to : ℕ) (x : Head) → headOf (span v from to) ≡ x → FirstFound v from to (firstByHead from x)
-by-first v from to Broken q ps s = none-first v from to ps s q
-by-first v from to (Leaf size) q ps s = leaf-first v from to size ps s q
-by-first v from to (Open front size) q ps s = open-first v from to front size ps s q
-
 parts-told : (v : List ℕ) (from to : ℕ) → from ≤ to → to ≤ length v → TellsParts v from to (signedData v from to)
 parts-told v from to h g ps s =
     let Say : Block → Type 0 = Tells (λ s. ps ≡ parts s) (λ s. from + inParts s) in
     let r₁ : Part = find v from to 0x02 in
-    let (f₁, b₁) = found v from to 0x02 h g in
+    let (f₁, b₁) = found v from to h g 0x02 in
     let r₂ : Part = find v (r₁ .to) to 0x31 in
-    let (f₂, b₂) = found v (r₁ .to) to 0x31 (b₁ .2) g in
+    let (f₂, b₂) = found v (r₁ .to) to (b₁ .2) g 0x31 in
     let r₃ : Part = find v (r₂ .to) to 0x30 in
-    let (f₃, b₃) = found v (r₂ .to) to 0x30 (b₂ .2) g in
+    let (f₃, b₃) = found v (r₂ .to) to (b₂ .2) g 0x30 in
     let r₄ : Part = find v (r₃ .to) to 0xA0 in
-    let (f₄, b₄) = found v (r₃ .to) to 0xA0 (b₃ .2) g in
+    let (f₄, b₄) = found v (r₃ .to) to (b₃ .2) g 0xA0 in
     let r₅ : Part = find v (r₄ .to) to 0xA1 in
-    let (f₅, b₅) = found v (r₄ .to) to 0xA1 (b₄ .2) g in
+    let (f₅, b₅) = found v (r₄ .to) to (b₄ .2) g 0xA1 in
     let r₆ : Part = find v (r₅ .to) to 0x31 in
-    let (f₆, b₆) = found v (r₅ .to) to 0x31 (b₅ .2) g in
+    let (f₆, b₆) = found v (r₅ .to) to (b₅ .2) g 0x31 in
     there-or Say (r₁ .to) from _ (no-version v from to ps s r₁ f₁) (λ n₁.
     there-or Say (r₂ .to) (r₁ .to) _ (no-digests v from to ps s r₁ f₁ n₁ r₂ f₂) (λ n₂.
     there-or Say (r₃ .to) (r₂ .to) _ (no-content v from to ps s r₁ f₁ n₁ r₂ f₂ n₂ r₃ f₃) (λ n₃.
     there-or Say (r₆ .to) (r₅ .to) _ (no-signers v from to ps s r₁ f₁ n₁ r₂ f₂ n₂ r₃ f₃ n₃ r₄ r₅ r₆ f₄ f₅ f₆) (λ n₆.
     ends-or Say (r₆ .to) to _ (more-behind v from to ps s r₁ f₁ n₁ r₂ f₂ n₂ r₃ f₃ n₃ r₄ r₅ r₆ f₄ f₅ f₆ n₆) (λ e.
-    all-there v from to ps s r₁ f₁ n₁ r₂ f₂ n₂ r₃ f₃ n₃ r₄ r₅ r₆ f₄ f₅ f₆ n₆ e _ (by-first v (r₄ .from) (r₄ .to) (headOf (span v (r₄ .from) (r₄ .to))) refl))))))
+    all-there v from to ps s r₁ f₁ n₁ r₂ f₂ n₂ r₃ f₃ n₃ r₄ r₅ r₆ f₄ f₅ f₆ n₆ e _ (firsts v (r₄ .from) (r₄ .to) (b₄ .1) (omega arith)))))))
 
 info-told : (v : List ℕ) → TellsItem v (contentInfo v)
 info-told v i g b =
     let Say : Block → Type 0 = Tells (λ s. i ≡ contentInfoOf s) place in
     let r₁ : Part = find v 0 (length v) 0x30 in
-    let (f₁, b₁) = found v 0 (length v) 0x30 (omega arith) (omega arith) in
+    let (f₁, b₁) = found v 0 (length v) (omega arith) (omega arith) 0x30 in
     let r₂ : Part = find v (r₁ .from) (r₁ .to) 0x06 in
-    let (f₂, b₂) = found v (r₁ .from) (r₁ .to) 0x06 (b₁ .1) (b₁ .2) in
+    let (f₂, b₂) = found v (r₁ .from) (r₁ .to) (b₁ .1) (b₁ .2) 0x06 in
     let r₃ : Part = find v (r₂ .to) (r₁ .to) 0xA0 in
-    let (f₃, b₃) = found v (r₂ .to) (r₁ .to) 0xA0 (b₂ .2) (b₁ .2) in
+    let (f₃, b₃) = found v (r₂ .to) (r₁ .to) (b₂ .2) (b₁ .2) 0xA0 in
     let r₄ : Part = find v (r₃ .from) (r₃ .to) 0x30 in
-    let (f₄, b₄) = found v (r₃ .from) (r₃ .to) 0x30 (b₃ .1) (omega arith) in
+    let (f₄, b₄) = found v (r₃ .from) (r₃ .to) (b₃ .1) (omega arith) 0x30 in
     let l : List ℕ = span v (r₁ .from) (r₂ .to) in
     test (same l id-bytes) (λ x. Say (cond x (ends (r₃ .to) (r₁ .to) (ofWrapped v r₃ r₄)) Bad))
     (λ q.

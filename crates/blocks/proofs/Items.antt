@@ -14,7 +14,7 @@ use Rattle.der.specs.Der.{Item, primitive, constructed, Items, none, _then_, de
 use Rattle.der.proofs.Turns.{span, span-long, span-rest, span-inner}
 use Rattle.der.proofs.Exact.{leaf-back, open-back, contents-back}
 use Rattle.blocks.specs.Block.{before}
-use Rattle.blocks.specs.Reading.{Spans, Finds, absent, there, firstAt}
+use Rattle.blocks.specs.Reading.{Spans, Next, ended, next, Finds, absent, there, firstAt}
 use Rattle.blocks.specs.declared.Block.the-variants.{Empty, Holds}
 use Rattle.blocks.specs.declared.Part.{Part}
 
@@ -112,48 +112,10 @@ module _ (v : List ℕ) (at end : ℕ) where
             ∙ rw e (contents-back t (allBytes ps) (allBytes qs) (h .good .0 .0));
       }
 
-  -- ---- the first of them, if it has the tag
+  -- ---- the first of them
 
-  module _ (t : ℕ) where
-    abbrev nowhere : Part
-    nowhere = record { from = at; to = at }
-
-    pub at-end : (ps : Items) → Spans v at end ps → at ≡ end → Finds v at end t ps nowhere
-    at-end none h e = absent tt refl
-    at-end (i then qs) h e = absurd (let s = some-left i qs h in omega arith)
-
-    pub other-tag : (ps : Items) → Spans v at end ps → (getD v at 0 ≡ t → ⊥) → Finds v at end t ps nowhere
-    other-tag none h n = absent tt refl
-    other-tag (i then qs) h n = absent (λ e. n (tag-here i qs h ∙ e)) refl
-
-    pub no-head : (ps : Items) → Spans v at end ps → headOf (span v at end) ≡ Broken → Finds v at end t ps nowhere
-    no-head none h e = absent tt refl
-    no-head (primitive u c then qs) h e = absurd (no-leaf (sym e ∙ head-here (primitive u c) qs h))
-    no-head (constructed u ps then qs) h e = absurd (no-open (sym e ∙ head-here (constructed u ps) qs h))
-
-    module _ (a : at < end) (g : getD v at 0 ≡ t) where
-      pub a-leaf : (size : ℕ) (ps : Items) → Spans v at end ps → headOf (span v at end) ≡ Leaf size → Finds v at end t ps (record { from = at + size; to = at + size })
-      a-leaf size none h e = absurd (let z = none-left h in omega arith)
-      a-leaf size (primitive u c then qs) h e =
-          let k : size ≡ length (derBytes (primitive u c)) = leaf-size (sym e ∙ head-here (primitive u c) qs h) in
-          rw k (there (primitive u c) qs refl (sym (tag-here (primitive u c) qs h) ∙ g) (h .good .0) refl tt (rest-spans (primitive u c) qs h))
-      a-leaf size (constructed u ps then qs) h e = absurd (not-both (sym e ∙ head-here (constructed u ps) qs h))
-
-      pub an-open : (front size : ℕ) (ps : Items) → Spans v at end ps → headOf (span v at end) ≡ Open front size
-          → Finds v at end t ps (record { from = at + front; to = at + size })
-      an-open front size none h e = absurd (let z = none-left h in omega arith)
-      an-open front size (primitive u c then qs) h e = absurd (not-both (sym (head-here (primitive u c) qs h) ∙ e))
-      an-open front size (constructed u ps then qs) h e =
-          let q = sym e ∙ head-here (constructed u ps) qs h in
-          rw (open-front q, open-size q)
-          (there (constructed u ps) qs refl (sym (tag-here (constructed u ps) qs h) ∙ g) (h .good .0) refl (refl, inner-spans u ps qs h) (rest-spans (constructed u ps) qs h))
-
-  -- ---- the first of them, whatever its tag
-
-  pub none-first : (ps : Items) → Spans v at end ps → headOf (span v at end) ≡ Broken → Empty ≡ firstAt at ps
-  none-first none h e = refl
-  none-first (primitive u c then qs) h e = absurd (no-leaf (sym e ∙ head-here (primitive u c) qs h))
-  none-first (constructed u ps then qs) h e = absurd (no-open (sym e ∙ head-here (constructed u ps) qs h))
+  abbrev nowhere : Part
+  nowhere = record { from = at; to = at }
 
   headless : headOf [] ≡ Broken
   unfolding headOf
@@ -162,12 +124,46 @@ module _ (v : List ℕ) (at end : ℕ) where
   nothing-here : Spans v at end none → headOf (span v at end) ≡ Broken
   nothing-here h = ap headOf (h .bytes) ∙ headless
 
-  pub leaf-first : (size : ℕ) (ps : Items) → Spans v at end ps → headOf (span v at end) ≡ Leaf size → Holds at (at + size) ≡ firstAt at ps
-  leaf-first size none h e = absurd (no-leaf (sym (nothing-here h) ∙ e))
-  leaf-first size (primitive u c then qs) h e = let k = leaf-size (sym e ∙ head-here (primitive u c) qs h) in rw k
-  leaf-first size (constructed u ps then qs) h e = absurd (not-both (sym e ∙ head-here (constructed u ps) qs h))
+  pub no-head : (ps : Items) → Spans v at end ps → headOf (span v at end) ≡ Broken → Next v at end ps nowhere
+  no-head none h e = ended refl refl
+  no-head (primitive u c then qs) h e = absurd (no-leaf (sym e ∙ head-here (primitive u c) qs h))
+  no-head (constructed u ps then qs) h e = absurd (no-open (sym e ∙ head-here (constructed u ps) qs h))
 
-  pub open-first : (front size : ℕ) (ps : Items) → Spans v at end ps → headOf (span v at end) ≡ Open front size → Holds at (at + size) ≡ firstAt at ps
-  open-first front size none h e = absurd (no-open (sym (nothing-here h) ∙ e))
-  open-first front size (primitive u c then qs) h e = absurd (not-both (sym (head-here (primitive u c) qs h) ∙ e))
-  open-first front size (constructed u ps then qs) h e = let k = open-size (sym e ∙ head-here (constructed u ps) qs h) in rw k
+  pub a-leaf : (size : ℕ) (ps : Items) → Spans v at end ps → headOf (span v at end) ≡ Leaf size → Next v at end ps (record { from = at + size; to = at + size })
+  a-leaf size none h e = absurd (no-leaf (sym (nothing-here h) ∙ e))
+  a-leaf size (primitive u c then qs) h e =
+      let k : size ≡ length (derBytes (primitive u c)) = leaf-size (sym e ∙ head-here (primitive u c) qs h) in
+      rw k (next (primitive u c) qs refl (h .good .0) refl tt (rest-spans (primitive u c) qs h))
+  a-leaf size (constructed u ps then qs) h e = absurd (not-both (sym e ∙ head-here (constructed u ps) qs h))
+
+  pub an-open : (front size : ℕ) (ps : Items) → Spans v at end ps → headOf (span v at end) ≡ Open front size → Next v at end ps (record { from = at + front; to = at + size })
+  an-open front size none h e = absurd (no-open (sym (nothing-here h) ∙ e))
+  an-open front size (primitive u c then qs) h e = absurd (not-both (sym (head-here (primitive u c) qs h) ∙ e))
+  an-open front size (constructed u ps then qs) h e =
+      let q = sym e ∙ head-here (constructed u ps) qs h in
+      rw (open-front q, open-size q) (next (constructed u ps) qs refl (h .good .0) refl (refl, inner-spans u ps qs h) (rest-spans (constructed u ps) qs h))
+
+  -- ---- if it has the tag
+
+  module _ (t : ℕ) where
+    pub at-end : (ps : Items) → Spans v at end ps → at ≡ end → Finds v at end t ps nowhere
+    at-end none h e = absent tt refl
+    at-end (i then qs) h e = absurd (let s = some-left i qs h in omega arith)
+
+    pub other-tag : (ps : Items) → Spans v at end ps → (getD v at 0 ≡ t → ⊥) → Finds v at end t ps nowhere
+    other-tag none h n = absent tt refl
+    other-tag (i then qs) h n = absent (λ e. n (tag-here i qs h ∙ e)) refl
+
+    pub this-tag : at < end → getD v at 0 ≡ t → (r : Part) (ps : Items) → Spans v at end ps → Next v at end ps r → Finds v at end t ps r
+    this-tag a g r ps h (ended e q) = absurd (let z = none-left (rw e at h) in omega arith)
+    this-tag a g r ps h (next i qs e k l o s) = there i qs e (sym (tag-here i qs (rw e at h)) ∙ g) k l o s
+
+  -- ---- as a certificate
+
+  pub none-first : (r : Part) (ps : Items) → Next v at end ps r → r .to ≡ at → Empty ≡ firstAt at ps
+  none-first r ps (ended e q) z = rw e
+  none-first r ps (next i qs e k l o s) z = absurd (let y = some-bytes i in omega (arith, l))
+
+  pub one-first : (r : Part) (ps : Items) → Next v at end ps r → (r .to ≡ at → ⊥) → Holds at (r .to) ≡ firstAt at ps
+  one-first r ps (ended e q) n = absurd (n (ap (λ (x : Part). x .to) q))
+  one-first r ps (next i qs e k l o s) n = rw (e, l)

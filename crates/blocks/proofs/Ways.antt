@@ -6,7 +6,7 @@ use mathlib.Core.List.{List}
 use native.Mathlib.Omega.{arith}
 use Rattle.der.specs.Der.{Items, none as nothing, _then_}
 use Rattle.blocks.specs.Block.{SignedData, parts, inField, before}
-use Rattle.blocks.specs.Reading.{Spans, Found, FirstFound, Tells, none-is, one-is, firstAt, inParts}
+use Rattle.blocks.specs.Reading.{Spans, FoundTagged, FirstFound, Tells, none-is, one-is, firstAt, inParts}
 use Rattle.blocks.specs.declared.Block.{Block}
 use Rattle.blocks.specs.declared.Block.the-variants.{Bad}
 use Rattle.blocks.specs.declared.Part.{Part}
@@ -14,7 +14,7 @@ use Rattle.blocks.proofs.Items.{none-left}
 use Rattle.blocks.proofs.Taking.{Took, takes, misses, Passed, passes, nothing-else}
 use Rattle.blocks.proofs.Shapes.{readSigners, readCrls, readCertificates, readContent, readDigests, read, step, miss, pass, not-last, together, refuted}
 
-module _ (v : List ℕ) (from to : ℕ) (ps : Items) (h : Spans v from to ps) (r₁ : Part) (f₁ : Found v from to 0x02 r₁) where
+module _ (v : List ℕ) (from to : ℕ) (ps : Items) (h : Spans v from to ps) (r₁ : Part) (f₁ : FoundTagged v from to 0x02 r₁) where
   abbrev Say : Block → Type 0
   Say r = Tells (λ s. ps ≡ parts s) (λ s. from + inParts s) r
 
@@ -24,7 +24,7 @@ module _ (v : List ℕ) (from to : ℕ) (ps : Items) (h : Spans v from to ps) (r
   pub no-version : r₁ .to ≡ from → Say Bad
   no-version e = bad (miss 0x02 ps readDigests (misses (f₁ ps h) e))
 
-  module _ (n₁ : r₁ .to ≡ from → ⊥) (r₂ : Part) (f₂ : Found v (r₁ .to) to 0x31 r₂) where
+  module _ (n₁ : r₁ .to ≡ from → ⊥) (r₂ : Part) (f₂ : FoundTagged v (r₁ .to) to 0x31 r₂) where
     one : Took v from to 0x02 ps r₁
     one = takes (f₁ ps h) n₁
 
@@ -34,7 +34,7 @@ module _ (v : List ℕ) (from to : ℕ) (ps : Items) (h : Spans v from to ps) (r
     pub no-digests : r₂ .to ≡ r₁ .to → Say Bad
     no-digests e = bad (one-step ∙ miss 0x31 (one .rest) (readContent (one .item)) (misses (f₂ (one .rest) (one .spans)) e))
 
-    module _ (n₂ : r₂ .to ≡ r₁ .to → ⊥) (r₃ : Part) (f₃ : Found v (r₂ .to) to 0x30 r₃) where
+    module _ (n₂ : r₂ .to ≡ r₁ .to → ⊥) (r₃ : Part) (f₃ : FoundTagged v (r₂ .to) to 0x30 r₃) where
       two : Took v (r₁ .to) to 0x31 (one .rest) r₂
       two = takes (f₂ (one .rest) (one .spans)) n₂
 
@@ -45,7 +45,7 @@ module _ (v : List ℕ) (from to : ℕ) (ps : Items) (h : Spans v from to ps) (r
       no-content e = bad (two-steps ∙ miss 0x30 (two .rest) (readCertificates (one .item) (two .item)) (misses (f₃ (two .rest) (two .spans)) e))
 
       module _ (n₃ : r₃ .to ≡ r₂ .to → ⊥) (r₄ r₅ r₆ : Part)
-          (f₄ : Found v (r₃ .to) to 0xA0 r₄) (f₅ : Found v (r₄ .to) to 0xA1 r₅) (f₆ : Found v (r₅ .to) to 0x31 r₆) where
+          (f₄ : FoundTagged v (r₃ .to) to 0xA0 r₄) (f₅ : FoundTagged v (r₄ .to) to 0xA1 r₅) (f₆ : FoundTagged v (r₅ .to) to 0x31 r₆) where
         three : Took v (r₂ .to) to 0x30 (two .rest) r₃
         three = takes (f₃ (two .rest) (two .spans)) n₃
 

@@ -14,7 +14,7 @@ use Rattle.der.specs.Der.{Item, constructed, Items, none as nothing, _then_, de
 use Rattle.der.proofs.Turns.{span}
 use Rattle.der.proofs.Unique.{same-item}
 use Rattle.blocks.specs.Block.{SignedData, parts, idSignedData, wrapped, held, contentInfo, before, place, inField}
-use Rattle.blocks.specs.Reading.{Spans, Found, Tells, none-is, one-is, TellsParts, firstAt, inParts}
+use Rattle.blocks.specs.Reading.{Spans, FoundTagged, Tells, none-is, one-is, TellsParts, firstAt, inParts}
 use Rattle.blocks.specs.declared.Block.{Block}
 use Rattle.blocks.specs.declared.Block.the-variants.{Bad}
 use Rattle.blocks.specs.declared.Part.{Part}
@@ -25,7 +25,7 @@ use Rattle.blocks.proofs.Taking.{same-first, same-rest, same-inside, em
 abbrev pub id-bytes : List ℕ
 id-bytes = 0x06 ∷ 0x09 ∷ 0x2A ∷ 0x86 ∷ 0x48 ∷ 0x86 ∷ 0xF7 ∷ 0x0D ∷ 0x01 ∷ 0x07 ∷ 0x02 ∷ []
 
-module _ (v : List ℕ) (i : Item) (g : Good i) (b : v ≡ derBytes i) (r₁ r₂ : Part) (f₁ : Found v 0 (length v) 0x30 r₁) (f₂ : Found v (r₁ .from) (r₁ .to) 0x06 r₂) where
+module _ (v : List ℕ) (i : Item) (g : Good i) (b : v ≡ derBytes i) (r₁ r₂ : Part) (f₁ : FoundTagged v 0 (length v) 0x30 r₁) (f₂ : FoundTagged v (r₁ .from) (r₁ .to) 0x06 r₂) where
   abbrev Say : Block → Type 0
   Say r = Tells (λ s. i ≡ contentInfo s) place r
 
@@ -44,14 +44,14 @@ module _ (v : List ℕ) (i : Item) (g : Good i) (b : v ≡ derBytes i) (r₁ r�
     id-there : span v (r₁ .from) (r₂ .to) ≡ derBytes idSignedData
     id-there = rw (at-id .0) (first-bytes v (r₁ .from) (r₁ .to) idSignedData (constructed 0xA0 (wrapped s) then nothing) in-info)
 
-    module _ (r₃ : Part) (f₃ : Found v (r₂ .to) (r₁ .to) 0xA0 r₃) where
+    module _ (r₃ : Part) (f₃ : FoundTagged v (r₂ .to) (r₁ .to) 0xA0 r₃) where
       wrap : Spans v (r₃ .from) (r₃ .to) (wrapped s) × Spans v (r₃ .to) (r₁ .to) nothing
       wrap = let x = sure (constructed 0xA0 (wrapped s)) nothing refl (f₃ (constructed 0xA0 (wrapped s) then nothing) (at-id .1)) in (x .1 .1, x .2)
 
       wrap-ends : r₃ .to ≡ r₁ .to
       wrap-ends = none-left v (r₃ .to) (r₁ .to) (wrap .1)
 
-      module _ (r₄ : Part) (f₄ : Found v (r₃ .from) (r₃ .to) 0x30 r₄) where
+      module _ (r₄ : Part) (f₄ : FoundTagged v (r₃ .from) (r₃ .to) 0x30 r₄) where
         data-there : (r₄ .to ≡ r₃ .from + length (derBytes (constructed 0x30 (parts s)))) × Spans v (r₄ .to) (r₃ .to) nothing
         data-there = let x = sure (constructed 0x30 (parts s)) nothing refl (f₄ (wrapped s) (wrap .0)) in (x .0, x .2)
 
@@ -60,11 +60,11 @@ module _ (v : List ℕ) (i : Item) (g : Good i) (b : v ≡ derBytes i) (r₁ r�
   pub other-id : (span v (r₁ .from) (r₂ .to) ≡ derBytes idSignedData → ⊥) → Say Bad
   other-id n = none-is (λ s t e. n (id-there s e)) refl
 
-  module _ (r₃ : Part) (f₃ : Found v (r₂ .to) (r₁ .to) 0xA0 r₃) where
+  module _ (r₃ : Part) (f₃ : FoundTagged v (r₂ .to) (r₁ .to) 0xA0 r₃) where
     pub more-items : (r₃ .to ≡ r₁ .to → ⊥) → Say Bad
     more-items n = none-is (λ s t e. n (wrap-ends s e r₃ f₃)) refl
 
-    module _ (r₄ : Part) (f₄ : Found v (r₃ .from) (r₃ .to) 0x30 r₄) where
+    module _ (r₄ : Part) (f₄ : FoundTagged v (r₃ .from) (r₃ .to) 0x30 r₄) where
       pub no-data : r₄ .to ≡ r₃ .from → Say Bad
       no-data q = none-is (λ s t e. let k = some-bytes (constructed 0x30 (parts s)) in let x = data-there s e r₃ f₃ r₄ f₄ .0 in omega arith) refl
 

@@ -31,20 +31,28 @@ abbrev pub Opened : List ℕ → ℕ → Part → Item → Type 0
 Opened v at r (primitive t c) = Unit {0}
 Opened v at r (constructed t qs) = (r .from ≡ at + before qs) × Spans v (r .from) (r .to) qs
 
+-- of the items ps, from `at` to `end`, the first with its contents; no bytes, where there is none
+pub data Next (v : List ℕ) (at end : ℕ) (ps : Items) (r : Part) : Type 0 where
+  ended : ps ≡ nothing → r ≡ record { from = at; to = at } → Next v at end ps r
+  next : (i : Item) (rest : Items) → ps ≡ i then rest → Good i → r .to ≡ at + length (derBytes i) → Opened v at r i → Spans v (r .to) end rest → Next v at end ps r
+
 -- the first of some items has another tag
 abbrev pub NotFirst : ℕ → Items → Type 0
 NotFirst t nothing = Unit {0}
 NotFirst t (i then ps) = tagOf i ≡ t → ⊥
 
--- of the items ps, from `at` to `end`, the first with its contents, if it has the tag t; else no bytes
+-- the same, if it has the tag t; else no bytes
 pub data Finds (v : List ℕ) (at end t : ℕ) (ps : Items) (r : Part) : Type 0 where
   absent : NotFirst t ps → r ≡ record { from = at; to = at } → Finds v at end t ps r
   there : (i : Item) (rest : Items) → ps ≡ i then rest → tagOf i ≡ t → Good i → r .to ≡ at + length (derBytes i) → Opened v at r i → Spans v (r .to) end rest
       → Finds v at end t ps r
 
 -- whichever items these are
-abbrev pub Found : List ℕ → ℕ → ℕ → ℕ → Part → Type 0
-Found v at end t r = (ps : Items) → Spans v at end ps → Finds v at end t ps r
+abbrev pub Found : List ℕ → ℕ → ℕ → Part → Type 0
+Found v at end r = (ps : Items) → Spans v at end ps → Next v at end ps r
+
+abbrev pub FoundTagged : List ℕ → ℕ → ℕ → ℕ → Part → Type 0
+FoundTagged v at end t r = (ps : Items) → Spans v at end ps → Finds v at end t ps r
 
 -- the first of some items that start at `at`
 abbrev pub firstAt : ℕ → Items → Block

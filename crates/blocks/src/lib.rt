@@ -2,7 +2,7 @@
 ghost use mathlib.Core.Path.{_≡_};
 ghost use Prim.Native.Nat.{_+_, _≤_};
 ghost use lib.ListN.{length};
-ghost use Rattle.blocks.specs.Reading.{Reads, Found, FirstFound, TellsParts, TellsItem};
+ghost use Rattle.blocks.specs.Reading.{Reads, Found, FoundTagged, FirstFound, TellsParts, TellsItem};
 use der::Walked;
 use heads::Head;
 use heads::front;
@@ -20,18 +20,12 @@ struct Part {
     to: usize,
 }
 
-// The item at `at`, if it has this tag, where items stand from there to `end`.
-fn find(v: &[u8], at: usize, end: usize, tag: u8) -> Part
+// The item at `at`, where items stand from there to `end`; none, where nothing does.
+fn next(v: &[u8], at: usize, end: usize) -> Part
     requires { ⌜ (at ≤ end) × (end ≤ length (now v)) ⌝ }
     ensures { λ r. ⌜ (at ≤ r .from) × (r .from ≤ r .to) × (r .to ≤ end) ⌝ }
-    ensures { λ r. ⌜ Found (now (v .entry)) at end tag r ⌝ }
+    ensures { λ r. ⌜ Found (now (v .entry)) at end r ⌝ }
 {
-    if at == end {
-        return Part { from: at, to: at };
-    }
-    if v[at] != tag {
-        return Part { from: at, to: at };
-    }
     match front(&v[at..end]) {
         Head::Broken => Part { from: at, to: at },
         Head::Leaf(size) => Part {
@@ -45,16 +39,31 @@ fn find(v: &[u8], at: usize, end: usize, tag: u8) -> Part
     }
 }
 
+// The same, if it has this tag; else none.
+fn find(v: &[u8], at: usize, end: usize, tag: u8) -> Part
+    requires { ⌜ (at ≤ end) × (end ≤ length (now v)) ⌝ }
+    ensures { λ r. ⌜ (at ≤ r .from) × (r .from ≤ r .to) × (r .to ≤ end) ⌝ }
+    ensures { λ r. ⌜ FoundTagged (now (v .entry)) at end tag r ⌝ }
+{
+    if at == end {
+        return Part { from: at, to: at };
+    }
+    if v[at] != tag {
+        return Part { from: at, to: at };
+    }
+    next(v, at, end)
+}
+
 // "the first item of its certificates field, tag and length included, is meant, and an empty field holds none"
 fn first(v: &[u8], from: usize, to: usize) -> Block
     requires { ⌜ (from ≤ to) × (to ≤ length (now v)) ⌝ }
     ensures { λ r. ⌜ FirstFound (now (v .entry)) from to r ⌝ }
 {
-    match front(&v[from..to]) {
-        Head::Broken => Block::Empty,
-        Head::Leaf(size) => Block::Holds(from, from + size),
-        Head::Open(_, size) => Block::Holds(from, from + size),
+    let part = next(v, from, to);
+    if part.to == from {
+        return Block::Empty;
     }
+    Block::Holds(from, part.to)
 }
 
 // "02, 31, 30, then A0 (certificates) and A1 where present, then 31", and nothing else.
