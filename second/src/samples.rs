@@ -195,10 +195,8 @@ fn block_for(object: &[u8], certificates: &[&[u8]]) -> Vec<u8> {
     let attribute = |bytes: &[u8], value| Tree::sequence(vec![identifier(bytes), Tree::constructed(SET, vec![value])]);
     let name = Tree::sequence(vec![identifier(&[0x55, 4, 3]), Tree::primitive(0x0C, b"Example Signer")]);
     let issuer = Tree::sequence(vec![Tree::constructed(SET, vec![name])]);
-    let signed_attributes = vec![
-        attribute(&CONTENT_TYPE, identifier(object)),
-        attribute(&MESSAGE_DIGEST, Tree::primitive(4, &[0xD1; 32])),
-    ];
+    let signed_attributes =
+        vec![attribute(&CONTENT_TYPE, identifier(object)), attribute(&MESSAGE_DIGEST, Tree::primitive(4, &[0xD1; 32]))];
     let signer = Tree::sequence(vec![
         Tree::primitive(INTEGER, &[1]),
         Tree::sequence(vec![issuer, Tree::primitive(INTEGER, &[7; 16])]),
