@@ -336,7 +336,7 @@ fn several_faults() -> Vec<Record> {
     just_and_too_short(cards.iter().map(Card::container), 3)
 }
 
-/// The samples, of which one or two are fingers.
+/// The samples, of which a few are fingers.
 fn other_kinds() -> Vec<Record> {
     just_and_too_short(samples::all().into_iter().map(|sample| sample.container), 8)
 }

@@ -1,5 +1,5 @@
 //! The samples: for each kind a container that conforms on 1 March 2026, and one that breaks a rule in an instructive way. One more
-//! conforms with lengths in longer forms.
+//! conforms with lengths in longer forms, and three with a signature block that is a SignedData.
 
 use crate::blocks::{signed_data, IDENTIFIER, INTEGER, SET};
 use crate::faces::{self, facial, Image};
@@ -182,18 +182,21 @@ pub const COMPRESSED: &[u8] = include_bytes!("certificates/rsa2048.der.gz");
 /// A certificate of a key on the curve P-256, made likewise.
 pub const P256: &[u8] = include_bytes!("certificates/p256.der");
 
-/// A signature block as a card has it, with these certificates; without any the field is not there. The digest and the signature are
-/// invented, and so nothing is signed by it.
+/// A signature block as a biometric has it, with these certificates; without any the field is not there. The digest and the
+/// signature are invented, and so nothing is signed by it.
 pub fn block(certificates: &[&[u8]]) -> Vec<u8> {
+    block_for(&BIOMETRIC_OBJECT, certificates)
+}
+
+/// The same for what has this identifier.
+fn block_for(object: &[u8], certificates: &[&[u8]]) -> Vec<u8> {
     let identifier = |bytes: &[u8]| Tree::primitive(IDENTIFIER, bytes);
     let algorithm = |bytes: &[u8]| Tree::sequence(vec![identifier(bytes), Tree::empty()]);
     let attribute = |bytes: &[u8], value| Tree::sequence(vec![identifier(bytes), Tree::constructed(SET, vec![value])]);
     let name = Tree::sequence(vec![identifier(&[0x55, 4, 3]), Tree::primitive(0x0C, b"Example Signer")]);
     let issuer = Tree::sequence(vec![Tree::constructed(SET, vec![name])]);
-    let signed_attributes = vec![
-        attribute(&CONTENT_TYPE, identifier(&BIOMETRIC_OBJECT)),
-        attribute(&MESSAGE_DIGEST, Tree::primitive(4, &[0xD1; 32])),
-    ];
+    let signed_attributes =
+        vec![attribute(&CONTENT_TYPE, identifier(object)), attribute(&MESSAGE_DIGEST, Tree::primitive(4, &[0xD1; 32]))];
     let signer = Tree::sequence(vec![
         Tree::primitive(INTEGER, &[1]),
         Tree::sequence(vec![issuer, Tree::primitive(INTEGER, &[7; 16])]),
@@ -205,7 +208,7 @@ pub fn block(certificates: &[&[u8]]) -> Vec<u8> {
     let mut parts = vec![
         Tree::primitive(INTEGER, &[3]),
         Tree::constructed(SET, vec![algorithm(&SHA_256)]),
-        Tree::sequence(vec![identifier(&BIOMETRIC_OBJECT)]),
+        Tree::sequence(vec![identifier(object)]),
         Tree::constructed(SET, vec![signer]),
     ];
     if !certificates.is_empty() {
@@ -215,11 +218,13 @@ pub fn block(certificates: &[&[u8]]) -> Vec<u8> {
     signed_data(parts).bytes()
 }
 
-/// Identifiers in that block: sha256, sha256WithRSAEncryption, contentType, messageDigest, and what is signed, 2.16.840.1.101.3.6.2.
+/// Identifiers in that block: sha256, sha256WithRSAEncryption, contentType, messageDigest, and what is signed, for a CHUID
+/// 2.16.840.1.101.3.6.1 and for a biometric 2.16.840.1.101.3.6.2.
 const SHA_256: [u8; 9] = [0x60, 0x86, 0x48, 0x01, 0x65, 3, 4, 2, 1];
 const RSA_WITH_SHA_256: [u8; 9] = [0x2A, 0x86, 0x48, 0x86, 0xF7, 0x0D, 1, 1, 11];
 const CONTENT_TYPE: [u8; 9] = [0x2A, 0x86, 0x48, 0x86, 0xF7, 0x0D, 1, 9, 3];
 const MESSAGE_DIGEST: [u8; 9] = [0x2A, 0x86, 0x48, 0x86, 0xF7, 0x0D, 1, 9, 4];
+const CHUID_OBJECT: [u8; 8] = [0x60, 0x86, 0x48, 0x01, 0x65, 3, 6, 1];
 const BIOMETRIC_OBJECT: [u8; 8] = [0x60, 0x86, 0x48, 0x01, 0x65, 3, 6, 2];
 
 /// A card with a certificate: 70, 71, and 72 if it is there.
@@ -250,6 +255,8 @@ pub fn all() -> Vec<Sample> {
         sample("chuid", chuid(&EXAMPLE_FASCN, b"20300131", &[])),
         sample("chuid-broken", chuid(&wrong_fascn(), b"20300131", &[])),
         chuid_in_longer_forms(),
+        // with a certificate: that of who signed the face below
+        sample("chuid-signed", chuid(&EXAMPLE_FASCN, b"20300131", &block_for(&CHUID_OBJECT, &[P256]))),
         sample("discovery", discovery([0x40, 0])),
         // a policy of 60 hex asks for 10 or 20 in the second byte
         sample("discovery-broken", discovery([0x60, 0])),
@@ -262,9 +269,13 @@ pub fn all() -> Vec<Sample> {
         sample("fingers", fingers(100, b'0', [3, 5])),
         // the version number as INCITS 378 has it, and 004 has not
         sample("fingers-broken", fingers(100, 0, [3, 5])),
+        // with a certificate of its own
+        sample("fingers-signed", with_block(fingers(100, b'0', [3, 5]), &block(&[RSA]))),
         sample("face", face(100, &facial(&[portrait()]), 40)),
         // a good header and rubbish after it
         sample("face-broken", face(100, &[0xFF; 300], 40)),
+        // with none, so that the CHUID's counts
+        sample("face-signed", with_block(face(100, &facial(&[portrait()]), 40), &block(&[]))),
         sample("pivauth", certificate(8, RSA, 0, None)),
         // a certificate that is compressed, and says so in 71: 70 is judged before, and gzip's first byte is no tag
         sample("pivauth-broken", certificate(8, COMPRESSED, 1, None)),

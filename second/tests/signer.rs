@@ -207,17 +207,29 @@ fn block_of_a_card() {
     assert_eq!(number_of(&samples::block(&[]), &samples::block(&[])), 31);
 }
 
-/// The samples have no blocks that are SignedData, but they belong together.
+/// The samples belong together. Only those that are called signed have blocks that are SignedData: the CHUID and the fingers with a
+/// certificate, the face without.
 #[test]
 fn the_samples() {
     let of = |name: &str| samples::all().into_iter().find(|sample| sample.name == name).unwrap().container;
+    let refused = |number| ((number, 0, None), Which::Neither, 0..0);
     for (kind, name) in KINDS.into_iter().zip(["fingers", "face", "iris"]) {
-        let told = answer_of(kind, EXAMPLE_DAY, &of("chuid"), &of(name));
-        assert_eq!(told, ((29, 0, None), Which::Neither, 0..0));
+        for chuid in ["chuid", "chuid-longer", "chuid-signed"] {
+            assert_eq!(answer_of(kind, EXAMPLE_DAY, &of(chuid), &of(name)), refused(29));
+        }
         let told = answer_of(kind, EXAMPLE_DAY, &of("chuid-broken"), &of(name));
         assert_eq!(told, ((17, 2, Some(0x30)), Which::Chuid, 0..0));
         let (told, which, _) = answer_of(kind, EXAMPLE_DAY, &of("chuid"), &of(&format!("{}-broken", name)));
         assert_eq!((told.2, which), (Some(0xBC), Which::Biometric));
+    }
+    for chuid in ["chuid", "chuid-longer", "chuid-signed"] {
+        let (chuid, fingers) = (of(chuid), of("fingers-signed"));
+        assert_eq!(signer(6, EXAMPLE_DAY, &chuid, &fingers), (CONFORMS, Which::Biometric, RSA));
+    }
+    let (chuid, face) = (of("chuid-signed"), of("face-signed"));
+    assert_eq!(signer(7, EXAMPLE_DAY, &chuid, &face), (CONFORMS, Which::Chuid, P256));
+    for chuid in ["chuid", "chuid-longer"] {
+        assert_eq!(answer_of(7, EXAMPLE_DAY, &of(chuid), &face), refused(30));
     }
 }
 

@@ -434,13 +434,14 @@ fn large_containers() -> Group {
 fn other_kinds() -> Group {
     let (first, second) = (point(1, 16, 32, 179, 100), [point(1, 16, 32, 179, 100); 5]);
     let told = |name: &str| match name {
-        "fingers" => CONFORMS,
+        "fingers" | "fingers-signed" => CONFORMS,
         "fingers-broken" => at_3(22),
         "discovery" | "discovery-broken" => alone(10),
-        "face" | "face-broken" | "iris" | "iris-broken" => (21, 4, Some(0xBC)),
+        "face" | "face-broken" | "face-signed" | "iris" | "iris-broken" => (21, 4, Some(0xBC)),
         "ccc" | "ccc-broken" => (13, 2, Some(0xF0)),
         "chuid" | "chuid-broken" => (13, 2, Some(0x30)),
         "chuid-longer" => (13, 5, Some(0x30)),
+        "chuid-signed" => (13, 4, Some(0x30)),
         "printed" | "printed-broken" => (13, 2, Some(0x01)),
         "security" => (13, 3, Some(0xBA)),
         "security-broken" => (13, 2, Some(0xBA)),
