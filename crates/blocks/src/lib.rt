@@ -85,8 +85,9 @@ fn signed_data(v: &[u8], from: usize, to: usize) -> Block
     }
     let certificates = find(v, content.to, to, 0xA0);
     let crls = find(v, certificates.to, to, 0xA1);
-    let signers = find(v, crls.to, to, 0x31);
-    if signers.to == crls.to {
+    let due = crls.to;
+    let signers = find(v, due, to, 0x31);
+    if signers.to == due {
         return Block::Bad;
     }
     if signers.to != to {
@@ -101,7 +102,8 @@ fn content_info(v: &[u8]) -> Block
 {
     let info = find(v, 0, v.len(), 0x30);
     let start = info.from;
-    let id = find(v, start, info.to, 0x06);
+    let end = info.to;
+    let id = find(v, start, end, 0x06);
     let after = id.to;
     if !plain::same(
         &v[start..after],
@@ -109,15 +111,17 @@ fn content_info(v: &[u8]) -> Block
     ) {
         return Block::Bad;
     }
-    let wrapped = find(v, after, info.to, 0xA0);
-    if wrapped.to != info.to {
+    let wrapped = find(v, after, end, 0xA0);
+    let inside = wrapped.from;
+    let stop = wrapped.to;
+    if stop != end {
         return Block::Bad;
     }
-    let signed = find(v, wrapped.from, wrapped.to, 0x30);
-    if signed.to == wrapped.from {
+    let signed = find(v, inside, stop, 0x30);
+    if signed.to == inside {
         return Block::Bad;
     }
-    if signed.to != wrapped.to {
+    if signed.to != stop {
         return Block::Bad;
     }
     signed_data(v, signed.from, signed.to)

@@ -128,14 +128,14 @@ pub extern "C" fn prosianek_signer(
 ) -> u64
     ensures { λ r. ⌜ CSigners kind today (now (chuid .entry)) (now (biometric .entry)) r (now (place .exit)) (now (tag .exit)) (now (which .exit)) (now (offset .exit)) (now (length .exit)) ⌝ }
 {
-    let part = signer::locate(kind, today, chuid, biometric);
-    let verdict = part.verdict;
+    let found = signer::locate(kind, today, chuid, biometric);
+    let verdict = found.verdict;
     let there = verdict.tag;
     *place = verdict.place;
     *tag = verdicts::tag_number(there);
-    *which = part.which;
-    *offset = part.from as u64;
-    *length = (part.to - part.from) as u64;
+    *which = found.which;
+    *offset = found.from as u64;
+    *length = (found.to - found.from) as u64;
     verdict.number
 }
 

@@ -19,7 +19,7 @@ returns c =
 
 returns-2 : tie.Need-returns-2
 returns-2 c =
-    let f₃ = c .before .before .before in
+    let f₃ = c .before in
     let s = f₃ .before .before in
     let f₂ = s .before .before .before in
     let f₁ = f₂ .before in
@@ -28,8 +28,8 @@ returns-2 c =
 
 returns-3 : tie.Need-returns-3
 returns-3 c =
-    let f₄ = c .before .before .before in
-    let f₃ = f₄ .before .before .before .before in
+    let f₄ = c .before .before in
+    let f₃ = f₄ .before .before in
     let s = f₃ .before .before in
     let f₂ = s .before .before .before in
     let f₁ = f₂ .before in
@@ -38,8 +38,8 @@ returns-3 c =
 
 returns-4 : tie.Need-returns-4
 returns-4 c =
-    let f₄ = c .before .before .before .before .before .before in
-    let f₃ = f₄ .before .before .before .before in
+    let f₄ = c .before .before .before .before in
+    let f₃ = f₄ .before .before in
     let s = f₃ .before .before in
     let f₂ = s .before .before .before in
     let f₁ = f₂ .before in
@@ -48,18 +48,18 @@ returns-4 c =
 
 signed-data-requires : tie.Need-signed-data-requires
 signed-data-requires c κs =
-    let f₄ = c .before .before .before .before .before .before in
-    let f₃ = f₄ .before .before .before .before in
+    let f₄ = c .before .before .before .before in
+    let f₃ = f₄ .before .before in
     let f₁ = f₃ .before .before .before .before .before .before in
     (f₄ .find4 .ensures .0 .1, omega (arith, f₄ .find4 .ensures .0, f₃ .find3 .ensures .0, f₁ .find .ensures .0))
 
 returns-5 : tie.Need-returns-5
 returns-5 c =
     let e₄ = c .before in
-    let e₃ = e₄ .before .before .before in
-    let f₄ = e₃ .before .before .before in
+    let e₃ = e₄ .before .before in
+    let f₄ = e₃ .before .before in
     let e₂ = f₄ .before in
-    let f₃ = e₂ .before .before .before in
+    let f₃ = e₂ .before in
     let e₁ = f₃ .before in
     let s = e₁ .before in
     let f₂ = s .before .before .before in

@@ -37,7 +37,7 @@ find-requires-6 c κs =
 
 returns-4 : tie.Need-returns-4
 returns-4 c =
-    let f₆ = c .before .before .before in
+    let f₆ = c .before .before in
     let f₅ = f₆ .before in
     let f₄ = f₅ .before in
     let e₃ = f₄ .before in
@@ -54,7 +54,7 @@ returns-4 c =
 returns-5 : tie.Need-returns-5
 returns-5 c =
     let e₄ = c .before .before in
-    let f₆ = e₄ .before .before .before in
+    let f₆ = e₄ .before .before in
     let f₅ = f₆ .before in
     let f₄ = f₅ .before in
     let e₃ = f₄ .before in
@@ -70,7 +70,7 @@ returns-5 c =
 
 first-requires : tie.Need-first-requires
 first-requires c κs =
-    let f₄ = c .before .before .before .before .before .before .before in
+    let f₄ = c .before .before .before .before .before .before in
     let f₃ = f₄ .before .before .before .before in
     let f₁ = f₃ .before .before .before .before .before .before .before in
     (f₄ .find4 .ensures .0 .1, omega (arith, f₄ .find4 .ensures .0, f₁ .before .before .pre))
@@ -79,7 +79,7 @@ returns-6 : tie.Need-returns-6
 returns-6 c =
     let e₅ = c .before in
     let e₄ = e₅ .before .before in
-    let f₆ = e₄ .before .before .before in
+    let f₆ = e₄ .before .before in
     let f₅ = f₆ .before in
     let f₄ = f₅ .before in
     let e₃ = f₄ .before in
