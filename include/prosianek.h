@@ -4,9 +4,9 @@
 // x86-64 programs and needs only the C library's memory functions:
 //     cc program.c $(pkg-config --cflags --libs prosianek)
 //
-// What is proved: every call ends and answers, whatever the bytes, dates, tags and sizes are; number, place, tag, length and
-// counts, each byte of a lent room and each number of a lent list are what the contract says. The caller need not have checked
-// anything. The calls keep nothing from one call to the next.
+// What is proved: every call ends and answers, whatever the bytes, dates, tags and sizes are; number, place, tag, offset, length,
+// counts and which container, each byte of a lent room and each number of a lent list are what the contract says. The caller need
+// not have checked anything. The calls keep nothing from one call to the next.
 //
 // What a C caller owes, because nothing on this side of the border can check it:
 //   - a pointer is not null, also where its size is 0: lend any byte there, or any number for a list;

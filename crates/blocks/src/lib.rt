@@ -1,6 +1,5 @@
 // Request 2026-11: a signature block read as a CMS SignedData in its ContentInfo, and where its first certificate stands.
-ghost use mathlib.Core.Path.{_≡_};
-ghost use Prim.Native.Nat.{_+_, _≤_};
+ghost use Prim.Native.Nat.{_≤_};
 ghost use lib.ListN.{length};
 ghost use Rattle.blocks.specs.Reading.{Reads, Found, FoundTagged, FirstFound, TellsParts, TellsItem};
 use der::Walked;

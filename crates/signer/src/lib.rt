@@ -1,7 +1,7 @@
 // Request 2026-11: "The signer's certificate stands in the biometric's own signature block or, if that block has none, in the
 // CHUID's 3E. Given both containers, hand back the certificate as a part of the one it lies in, and say which."
 ghost use mathlib.Core.Path.{_≡_};
-ghost use Prim.Native.Nat.{_+_, _<_, _≤_};
+ghost use Prim.Native.Nat.{_+_, _≤_};
 ghost use lib.ListN.{length};
 ghost use Rattle.laws.specs.Layout.{field};
 ghost use Rattle.verdicts.specs.Verdicts.{outright, verdictOf};
@@ -55,6 +55,7 @@ fn of_neither(fault: Fault) -> Located
     )
 }
 
+// A certificate, from here to there.
 fn found(which: u64, from: usize, to: usize) -> Located
     ensures { λ r. ⌜ r ≡ record { verdict = record { number = 0; place = 0; tag = NoTag }; which = which; from = from; to = to } ⌝ }
 {
