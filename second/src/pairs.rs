@@ -125,7 +125,9 @@ fn another_fascn(rng: &mut Rng, pair: &Pair) -> Vec<u8> {
 
 /// A pair of which one container, or each, has about as many bytes as there may be. The long block has a long certificate, or none.
 fn large(rng: &mut Rng, mut pair: Pair) -> Record {
-    let long = rng.pick(&[blocks::with_long_certificate, blocks::with_long_signature]);
+    let sorts: [fn(usize) -> Vec<u8>; 2] =
+        [blocks::with_long_certificate, blocks::with_long_signature];
+    let long = rng.pick(&sorts);
     let total = match rng.below(4) {
         0 => rng.size(10_000, CONTAINER_MAX),
         1 => CONTAINER_MAX + 1,

@@ -12,7 +12,7 @@ const CHUID: u64 = Which::Chuid as u64;
 const BIOMETRIC: u64 = Which::Biometric as u64;
 
 /// The mistakes that are made, each with the name of what is lent.
-pub const MISTAKES: [(&str, &str); 33] = [
+pub(super) const MISTAKES: [(&str, &str); 33] = [
     ("number", "the check's before 1"),
     ("number", "the biometric's first"),
     ("number", "without the FASC-N"),
@@ -49,7 +49,7 @@ pub const MISTAKES: [(&str, &str); 33] = [
 ];
 
 /// All of them in a call: what is wrong with the verdict as with that of a check, and what is wrong with a signer.
-pub fn mistakes(record: &Record, expected: &Answer) -> Vec<Mistake> {
+pub(super) fn mistakes(record: &Record, expected: &Answer) -> Vec<Mistake> {
     let mut out = match check_of(record, expected.which) {
         Some(check) => mistakes_of_verdict(&check, expected),
         None => Vec::new(),
