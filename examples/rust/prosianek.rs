@@ -323,7 +323,7 @@ pub fn signer(
     let range = offset as usize..(offset + length) as usize;
     match (which, answer(number, place, tag, range)) {
         (1, Ok(range)) => Ok((Which::Chuid, range)),
-        // a certificate that is in neither there is not
+        // 2: there is no certificate that is in neither
         (_, Ok(range)) => Ok((Which::Biometric, range)),
         (1, Err(refused)) => Err((Some(Which::Chuid), refused)),
         (2, Err(refused)) => Err((Some(Which::Biometric), refused)),

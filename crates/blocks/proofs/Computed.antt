@@ -19,8 +19,8 @@ use Rattle.der.specs.declared.Walked.{Walked}
 use Rattle.der.specs.declared.Walked.the-variants.{Whole, Bad as BadItem, Deep}
 use Rattle.der.proofs.Turns.{span, span-long}
 use Rattle.der.proofs.Exact.{not-bad, not-deep}
-use Rattle.blocks.specs.Block.{parts, contentInfo as contentInfoOf, place}
-use Rattle.blocks.specs.Reading.{Reads, Found, FoundTagged, FirstFound, firstAt, Tells, inParts, TellsParts, TellsItem}
+use Rattle.blocks.specs.Block.{parts, contentInfo as contentInfoOf, inParts, place}
+use Rattle.blocks.specs.Reading.{Reads, Found, FoundTagged, FirstFound, firstAt, Tells, TellsParts, TellsItem}
 use Rattle.blocks.specs.declared.Block.{Block}
 use Rattle.blocks.specs.declared.Block.the-variants.{Bad, Empty, Holds}
 use Rattle.blocks.specs.declared.Part.{Part}

@@ -15,7 +15,7 @@ use Rattle.der.specs.declared.Walked.{Walked}
 use Rattle.der.specs.declared.Walked.the-variants.{Whole}
 use Rattle.der.proofs.Exact.{item-exact}
 use Rattle.der.proofs.Unique.{one-item}
-use Rattle.blocks.specs.Block.{SignedData, present, parts, idSignedData, wrapped, held, contentInfo, IsBlock, inField, first, certificate, before, place}
+use Rattle.blocks.specs.Block.{SignedData, present, parts, idSignedData, wrapped, held, contentInfo, IsBlock, inField, first, certificate, before, outside, place}
 use Rattle.blocks.specs.Reading.{Reads, no-block, no-certificate, found, Spans, TellsItem, Tells, none-is, one-is, firstAt}
 use Rattle.blocks.specs.declared.Block.{Block}
 use Rattle.blocks.specs.declared.Block.the-variants.{Bad}
@@ -99,4 +99,5 @@ stands v s c b e =
     let one = inner-spans v _ _ 0x30 (parts s) nothing wrap in
     let three = rest-spans v _ _ (s .content) _ (rest-spans v _ _ (s .digests) _ (rest-spans v _ _ (s .version) _ one)) in
     let x = in-field v _ _ (s .certificates) _ c three e in
-    (omega (arith, x .0, three .inside), rw zero-add at (x .1))
+    let n : outside s + length (derBytes (s .version)) + length (derBytes (s .digests)) + length (derBytes (s .content)) + before (inField (s .certificates)) ≡ place s = omega arith in
+    (omega (arith, x .0, three .inside), rw (← n) (rw zero-add at (x .1)))

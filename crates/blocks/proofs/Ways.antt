@@ -5,8 +5,8 @@ use mathlib.Core.Option.{none}
 use mathlib.Core.List.{List}
 use native.Mathlib.Omega.{arith}
 use Rattle.der.specs.Der.{Items, none as nothing, _then_}
-use Rattle.blocks.specs.Block.{SignedData, parts, inField, before}
-use Rattle.blocks.specs.Reading.{Spans, FoundTagged, FirstFound, Tells, none-is, one-is, firstAt, inParts}
+use Rattle.blocks.specs.Block.{SignedData, parts, inField, before, inParts}
+use Rattle.blocks.specs.Reading.{Spans, FoundTagged, FirstFound, Tells, none-is, one-is, firstAt}
 use Rattle.blocks.specs.declared.Block.{Block}
 use Rattle.blocks.specs.declared.Block.the-variants.{Bad}
 use Rattle.blocks.specs.declared.Part.{Part}

@@ -13,8 +13,8 @@ use Rattle.heads.specs.Length.{lengthBytes}
 use Rattle.der.specs.Der.{Item, constructed, Items, none as nothing, _then_, derBytes, Good}
 use Rattle.der.proofs.Turns.{span}
 use Rattle.der.proofs.Unique.{same-item}
-use Rattle.blocks.specs.Block.{SignedData, parts, idSignedData, wrapped, held, contentInfo, before, place, inField}
-use Rattle.blocks.specs.Reading.{Spans, FoundTagged, Tells, none-is, one-is, TellsParts, firstAt, inParts}
+use Rattle.blocks.specs.Block.{SignedData, parts, idSignedData, wrapped, held, contentInfo, before, inParts, place, inField}
+use Rattle.blocks.specs.Reading.{Spans, FoundTagged, Tells, none-is, one-is, TellsParts, firstAt}
 use Rattle.blocks.specs.declared.Block.{Block}
 use Rattle.blocks.specs.declared.Block.the-variants.{Bad}
 use Rattle.blocks.specs.declared.Part.{Part}

@@ -73,10 +73,14 @@ certificate s = first (inField (s .certificates))
 abbrev pub before : Items → ℕ
 before ps = 1 + length (lengthBytes (length (allBytes ps)))
 
--- how many bytes of the block stand before the first certificate: the tag and the length of each item that it lies in, and the parts before it
+-- how many bytes of the block stand before the parts of the SignedData: the tag and the length of each item that these lie in, and the object identifier
 abbrev pub outside : SignedData → ℕ
 outside s = before (held s) + length (derBytes idSignedData) + before (wrapped s) + before (parts s)
 
+-- how many bytes of the parts stand before the first certificate: the three before the field, and the field's tag and length
+abbrev pub inParts : SignedData → ℕ
+inParts s = length (derBytes (s .version)) + length (derBytes (s .digests)) + length (derBytes (s .content)) + before (inField (s .certificates))
+
+-- where the first certificate stands in the block
 abbrev pub place : SignedData → ℕ
-place s =
-    outside s + length (derBytes (s .version)) + length (derBytes (s .digests)) + length (derBytes (s .content)) + before (inField (s .certificates))
+place s = outside s + inParts s

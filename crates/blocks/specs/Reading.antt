@@ -6,7 +6,7 @@ use mathlib.Core.Option.{none, some}
 use mathlib.Core.List.{List}
 use lib.ListN.{length, take, drop}
 use Rattle.der.specs.Der.{Item, primitive, constructed, Items, none as nothing, _then_, derBytes, allBytes, Good, AllGood, tagOf}
-use Rattle.blocks.specs.Block.{SignedData, Tagged, parts, contentInfo, IsBlock, inField, certificate, before, place}
+use Rattle.blocks.specs.Block.{SignedData, Tagged, parts, contentInfo, IsBlock, inField, certificate, before, inParts, place}
 use Rattle.blocks.specs.declared.Block.{Block}
 use Rattle.blocks.specs.declared.Block.the-variants.{Bad, Empty, Holds}
 use Rattle.blocks.specs.declared.Part.{Part}
@@ -66,10 +66,6 @@ FirstFound v from to r = (ps : Items) → Spans v from to ps → r ≡ firstAt f
 pub data Tells (Of : SignedData → Type 0) (placed : SignedData → ℕ) (r : Block) : Type 0 where
   none-is : ((s : SignedData) → Tagged s → Of s → ⊥) → r ≡ Bad → Tells Of placed r
   one-is : (s : SignedData) → Tagged s → Of s → r ≡ firstAt (placed s) (inField (s .certificates)) → Tells Of placed r
-
--- how many bytes of the parts stand before the first certificate
-abbrev pub inParts : SignedData → ℕ
-inParts s = length (derBytes (s .version)) + length (derBytes (s .digests)) + length (derBytes (s .content)) + before (inField (s .certificates))
 
 abbrev pub TellsParts : List ℕ → ℕ → ℕ → Block → Type 0
 TellsParts v from to r = (ps : Items) → Spans v from to ps → Tells (λ s. ps ≡ parts s) (λ s. from + inParts s) r
