@@ -15,7 +15,7 @@ use Rattle.verdicts.specs.declared.Tag.{Tag}
 use Rattle.verdicts.specs.declared.Tag.the-variants.{NoTag, Of}
 use Rattle.verdicts.specs.declared.Outcome.the-variants.{Fine}
 use Rattle.verdicts.specs.declared.Verdict.{Verdict}
-use Rattle.card.specs.Card.{names, kindName, tagText, cardPart}
+use Rattle.card.specs.Card.{names, kindName, tagText, verdictText, cardPart}
 
 section-length : (kind size today : ℕ) (v : Verdict)
     → length (cardPart kind size today v) ≡ 46 + (length (kindName kind) + (length (decimal size) + (length (decimal (v .number)) + (length (decimal (v .place)) + length (tagText (v .tag))))))
@@ -47,3 +47,7 @@ card-most kind size today v h g k =
       decimal-length 5 (v .place) (omega arith) k,
       tag-length (v .tag),
     )
+
+-- the numbers of a verdict alone
+pub verdict-most : (v : Verdict) → v .number < 10 ^ 2 → v .place < 10 ^ 5 → length (verdictText v) ≤ 14
+verdict-most v g k = simp length-append (omega (arith, decimal-length 2 (v .number) (omega arith) g, decimal-length 5 (v .place) (omega arith) k, tag-length (v .tag)))

@@ -24,9 +24,13 @@ abbrev pub tagText : Tag → List ℕ
 tagText NoTag = ascii "--"
 tagText (Of t) = hexTag t
 
+-- number, place and tag, and the line's end: what stands in the report behind "`verdict`", and ends a row of a folder's summary
+abbrev pub verdictText : Verdict → List ℕ
+verdictText v = numeral (v .number) 32 ++ numeral (v .place) 32 ++ tagText (v .tag) ++ 10 ∷ []
+
 -- "`verdict 17 2 30`"
 abbrev pub verdictLine : Verdict → List ℕ
-verdictLine v = ascii "verdict " ++ numeral (v .number) 32 ++ numeral (v .place) 32 ++ tagText (v .tag) ++ 10 ∷ []
+verdictLine v = ascii "verdict " ++ verdictText v
 
 -- four lines
 unfoldable pub cardPart : ℕ → ℕ → ℕ → Verdict → List ℕ

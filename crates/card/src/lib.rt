@@ -4,10 +4,11 @@ ghost use mathlib.Core.List.{[], _∷_, _++_};
 ghost use Rattle.laws.specs.Room.{Put};
 ghost use Rattle.verdicts.specs.Verdicts.{verdictOf};
 ghost use Rattle.verdicts.specs.declared.Outcome.the-variants.{Broken};
-ghost use Rattle.card.specs.Card.{kindName, tagText, verdictLine, cardPart};
+ghost use Rattle.card.specs.Card.{kindName, tagText, verdictText, verdictLine, cardPart};
 use verdicts::Finding;
 use verdicts::Outcome;
 use verdicts::Tag;
+use verdicts::Verdict;
 
 // "1 CCC, 2 CHUID, 3 DISCOVERY, 4 PRINTED, 5 SECURITY, 6 FINGERS, 7 FACE", 2026-04: "8 to 11, printed PIVAUTH, DIGSIG, KEYMGMT,
 // CARDAUTH", 2026-06: "12, printed IRIS", and the line's end.
@@ -41,18 +42,24 @@ fn put_tag(tag: Tag, out: &mut [u8]) -> usize
     }
 }
 
-// "verdict number and place", and the tag, of a broken rule.
+// "verdict number and place", and the tag: the end of a line.
+pub fn put_numbers(verdict: Verdict, out: &mut [u8]) -> usize
+    ensures { λ r. ⌜ Put (verdictText verdict) (now (out .entry)) (now (out .exit)) r ⌝ }
+{
+    let tag = verdict.tag;
+    let mut at = texts::put_number(verdict.number, b' ', out);
+    at += texts::put_number(verdict.place, b' ', &mut out[at..]);
+    at += put_tag(tag, &mut out[at..]);
+    at + room::put_byte(b'\n', &mut out[at..])
+}
+
+// The line of a broken rule.
 fn put_broken(f: Finding, out: &mut [u8]) -> usize
     ensures { λ r. ⌜ Put (verdictLine (verdictOf (Broken f))) (now (out .entry)) (now (out .exit)) r ⌝ }
 {
-    let fault = f.fault;
-    let tag = f.tag;
-    let number = verdicts::number_of(fault);
-    let mut at = room::put_all(b"verdict ", out);
-    at += texts::put_number(number, b' ', &mut out[at..]);
-    at += texts::put_number(f.place as u64, b' ', &mut out[at..]);
-    at += put_tag(tag, &mut out[at..]);
-    at + room::put_byte(b'\n', &mut out[at..])
+    let verdict = verdicts::verdict_of(Outcome::Broken(f));
+    let at = room::put_all(b"verdict ", out);
+    at + put_numbers(verdict, &mut out[at..])
 }
 
 // The line of the verdict. That of a container that conforms is always the same, and is put in one piece.

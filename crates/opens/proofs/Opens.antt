@@ -53,7 +53,7 @@ module _ (starts ends c : List ℕ) where
   abbrev pub row : ℕ → List ℕ
   row i = part c (getD starts i 0) (getD ends i 0 - getD starts i 0)
 
-  row-bytes : (i : ℕ) → bytesOf (rowValue starts ends c i) ≡ row i
+  pub row-bytes : (i : ℕ) → bytesOf (rowValue starts ends c i) ≡ row i
   row-bytes i =
       elim (which (eqb (getD ends i 0) 0)) [
         | inl q ↦ rw (q, eqb-true (getD ends i 0) 0 q, zero-sub)

@@ -6,7 +6,7 @@ use native.Mathlib.Omega.{arith}
 use native.Mathlib.Decide.{decLt}
 use lib.ListN.{getD, List·getD-eq-default}
 use Rattle.verdicts.specs.declared.Fault.{Fault}
-use Rattle.verdicts.specs.declared.Fault.the-variants.{UnknownKind, NoDate, SmallRoom, LargeContainer, TornSheet, NoElement, LongNumber, OuterTag, LengthForm, Overrun, UnknownTag, TagOrder, MissingRow, ElementLength, BadFascn, BadUuid, BadDate, BadFixed, BadHeader, BadMinutiae, BadText, BadDer, TooDeep, BadFace, BadIris, FascnDiffer, BiometricBlock, ChuidBlock, NeitherHolds}
+use Rattle.verdicts.specs.declared.Fault.the-variants.{UnknownKind, NoDate, SmallRoom, LargeContainer, TornSheet, NoElement, LongNumber, OuterTag, LengthForm, Overrun, UnknownTag, TagOrder, MissingRow, ElementLength, BadFascn, BadUuid, BadDate, BadFixed, BadHeader, BadMinutiae, BadText, BadDer, TooDeep, BadFace, BadIris, FascnDiffer, BiometricBlock, ChuidBlock, NeitherHolds, TornFolder}
 use Rattle.verdicts.specs.declared.Tag.the-variants.{NoTag, Of}
 use Rattle.verdicts.specs.declared.Finding.{Finding}
 use Rattle.verdicts.specs.declared.Outcome.{Outcome}
@@ -19,7 +19,8 @@ byNumber : List Outcome
 byNumber =
     Fine ∷ b UnknownKind ∷ b NoDate ∷ b SmallRoom ∷ b LargeContainer ∷ b TornSheet ∷ b NoElement ∷ b LongNumber ∷ Fine ∷ Fine ∷ b OuterTag
     ∷ b LengthForm ∷ b Overrun ∷ b UnknownTag ∷ b TagOrder ∷ b MissingRow ∷ b ElementLength ∷ b BadFascn ∷ b BadUuid ∷ b BadDate ∷ b BadFixed
-    ∷ b BadHeader ∷ b BadMinutiae ∷ b BadText ∷ b BadDer ∷ b TooDeep ∷ b BadFace ∷ b BadIris ∷ b FascnDiffer ∷ b BiometricBlock ∷ b ChuidBlock ∷ b NeitherHolds ∷ []
+    ∷ b BadHeader ∷ b BadMinutiae ∷ b BadText ∷ b BadDer ∷ b TooDeep ∷ b BadFace ∷ b BadIris ∷ b FascnDiffer ∷ b BiometricBlock ∷ b ChuidBlock ∷ b NeitherHolds
+    ∷ b TornFolder ∷ []
   where
     b : Fault → Outcome
     b f = Broken (outright f)
@@ -58,6 +59,7 @@ stands f =
       | BiometricBlock ↦ refl
       | ChuidBlock ↦ refl
       | NeitherHolds ↦ refl
+      | TornFolder ↦ refl
     ]
 
 -- a number at which no fault stands is that of none
@@ -86,7 +88,7 @@ one-fault f g e =
 pub number-small : (f : Fault) → numberOf f < 100
 unfolding byNumber
 number-small f =
-    elim (decLt (numberOf f) 32) [
+    elim (decLt (numberOf f) 33) [
       | yes h ↦ omega arith
       | no h ↦ absurd (unused (numberOf f) (List·getD-eq-default byNumber Fine {n = numberOf f} (omega arith)) f refl)
     ]

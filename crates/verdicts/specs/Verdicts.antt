@@ -1,7 +1,7 @@
--- 01, "Numbers", and requests 2026-04, 2026-05, 2026-06, 2026-11 and 2026-12: the number of each fault; and the verdict, a number, a place and, since 2026-02, the tag of the element there.
+-- 01, "Numbers", and requests 2026-04, 2026-05, 2026-06, 2026-11, 2026-12 and 2026-14: the number of each fault; and the verdict, a number, a place and, since 2026-02, the tag of the element there.
 use Prim.Native.Nat.{ℕ}
 use Rattle.verdicts.specs.declared.Fault.{Fault}
-use Rattle.verdicts.specs.declared.Fault.the-variants.{UnknownKind, NoDate, SmallRoom, LargeContainer, TornSheet, NoElement, LongNumber, OuterTag, LengthForm, Overrun, UnknownTag, TagOrder, MissingRow, ElementLength, BadFascn, BadUuid, BadDate, BadFixed, BadHeader, BadMinutiae, BadText, BadDer, TooDeep, BadFace, BadIris, FascnDiffer, BiometricBlock, ChuidBlock, NeitherHolds}
+use Rattle.verdicts.specs.declared.Fault.the-variants.{UnknownKind, NoDate, SmallRoom, LargeContainer, TornSheet, NoElement, LongNumber, OuterTag, LengthForm, Overrun, UnknownTag, TagOrder, MissingRow, ElementLength, BadFascn, BadUuid, BadDate, BadFixed, BadHeader, BadMinutiae, BadText, BadDer, TooDeep, BadFace, BadIris, FascnDiffer, BiometricBlock, ChuidBlock, NeitherHolds, TornFolder}
 use Rattle.verdicts.specs.declared.Tag.{Tag}
 use Rattle.verdicts.specs.declared.Tag.the-variants.{NoTag, Of}
 use Rattle.verdicts.specs.declared.Finding.{Finding}
@@ -44,6 +44,7 @@ numberOf FascnDiffer = 28  -- FASC-N differ
 numberOf BiometricBlock = 29  -- biometric block is no SignedData
 numberOf ChuidBlock = 30  -- CHUID block needed and is none
 numberOf NeitherHolds = 31  -- neither holds a certificate
+numberOf TornFolder = 32  -- folder cut short, bytes left over or count above 256
 
 -- ---- 2026-02: "The verdict record should carry the element's tag"
 

@@ -35,6 +35,7 @@ pub enum Fault {
     BiometricBlock,
     ChuidBlock,
     NeitherHolds,
+    TornFolder,
 }
 
 // What a value's rule answers.
@@ -113,6 +114,7 @@ pub fn number_of(f: Fault) -> u64
         Fault::BiometricBlock => 29,
         Fault::ChuidBlock => 30,
         Fault::NeitherHolds => 31,
+        Fault::TornFolder => 32,
     }
 }
 

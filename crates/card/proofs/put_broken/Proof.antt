@@ -6,13 +6,9 @@ use Rattle.card.proofs.put_broken.Tie as tie
 
 returns : tie.Need-returns
 returns c =
-    let c5 = c .before .before in
-    let c4 = c5 .before .before .before .before in
-    let c3 = c4 .before .before .before .before in
-    let c2 = c3 .before .before .before .before in
-    let c1 = c2 .before .before .before .before in
-    let n = c1 .before .before .before in
-    then (then (then (then (c1 .put-all .ensures) (rw (n .number-of .ensures) at (c2 .put-number .ensures))) (c3 .put-number2 .ensures)) (c4 .put-tag .ensures)) (c5 .put-byte .ensures)
+    let n = c .before .before in
+    let a = n .before .before .before .before in
+    then (a .put-all .ensures) (rw (a .before .before .before .verdict-of .ensures) at (n .put-numbers .ensures))
 
 pub put-broken-spec : {M : Type 1} → statement M
 put-broken-spec =
@@ -21,21 +17,6 @@ put-broken-spec =
     (λ c κs. search needs)
     (λ c. search needs)
     (λ c κs. search needs)
-    (λ c. search needs)
-    (λ c. search needs)
-    (λ c. search needs)
-    (λ c κs. search needs)
-    (λ c. search needs)
-    (λ c. search needs)
-    (λ c. search needs)
-    (λ c. search needs)
-    (λ c κs. search needs)
-    (λ c. search needs)
-    (λ c. search needs)
-    (λ c. search needs)
-    (λ c. search needs)
-    (λ c κs. search needs)
-    (λ c. search needs)
     (λ c. search needs)
     (λ c. search needs)
     (λ c. search needs)
