@@ -1,4 +1,4 @@
--- The nine calls of the door. Each record is the whole contract of one call: what it answers and what it leaves, on every input. Nothing is asked of
+-- The thirteen calls of the door. Each record is the whole contract of one call: what it answers and what it leaves, on every input. Nothing is asked of
 -- a caller, and nothing of the answer is left open (`promises`, `Settled`).
 use Prim.Native.Nat.{ℕ}
 use mathlib.Core.Logic.{_⊎_}
@@ -22,6 +22,11 @@ use Rattle.points.specs.declared.Point.{Point}
 use Rattle.points.specs.declared.Listed.{Listed}
 use Rattle.signer.specs.Signer.{Signs}
 use Rattle.report.specs.Calls.{reportOutput}
+use Rattle.pieces.specs.Pieces.{over, ended}
+use Rattle.pieces.specs.declared.State.{State}
+use Rattle.summary.specs.Rows.{Answers as RowAnswers, lastOutput}
+use Rattle.summary.specs.declared.Tally.{Tally}
+use Rattle.summary.specs.declared.Rowed.{Rowed}
 
 -- "Check: 1, 2, 4, then outer 10, 11, 12 (place 0), then each element": the verdict of the bytes c. No room has a part in it
 pub record Judges (kind today : ℕ) (c : List ℕ) (v : Verdict) : Type 0 where
@@ -66,3 +71,20 @@ pub record Decodes (s : List ℕ) (r : Decoded) : Type 0 where
 -- "Encoding alone: 7, then 3 for a room under 25."
 pub record Encodes (n : Numbers) (before after : List ℕ) (number : ℕ) : Type 0 where
   pub leaves : Encoded n before after number
+
+-- 2026-14, "The counts and lengths are gone over first": one piece more of a folder, after a state and before another
+pub record FolderSteps (s : State) (piece : List ℕ) (r : State) : Type 0 where
+  pub goes-on : r ≡ over s piece
+
+-- "Refusals: 32, folder cut short, bytes left over or count above 256, before any container; 2 for today comes first of all"
+pub record FolderEnds (today : ℕ) (s : State) (number : ℕ) : Type 0 where
+  pub answer : number ≡ ended today s
+
+-- "the containers lent one at a time (one over 32,768 by its length alone), each with a room of at least 64 bytes for its row": of the container whose first
+-- byte stands at an offset of the folder, which has so many bytes, and for which c was lent; the state of the folder is t before the row
+pub record Rows (today kind offset size : ℕ) (c : List ℕ) (t : Tally) (before after : List ℕ) (r : Rowed) : Type 0 where
+  pub answers : RowAnswers today kind offset size c t before after r
+
+-- "the two last lines get such a room too"
+pub record Lasts (good agreement : ℕ) (before after : List ℕ) (r : Done) : Type 0 where
+  pub leaves : Leaves (lastOutput good agreement (length before)) before after r

@@ -1,15 +1,18 @@
-// The door: the nine calls, and nothing else. Each contract is one record of specs/Calls.antt.
+// The door: the thirteen calls, and nothing else. Each contract is one record of specs/Calls.antt.
 //
 // kind is 1 CCC, 2 CHUID, 3 DISCOVERY, 4 PRINTED, 5 SECURITY, 6 FINGERS, 7 FACE, 8 PIVAUTH, 9 DIGSIG, 10 KEYMGMT, 11 CARDAUTH,
 // 12 IRIS; today is a date as an eight-digit number.
 // Every input gets an answer. A room that is lent holds the output afterwards, and zeros: nothing of what was there.
-ghost use Rattle.prosianek.specs.Calls.{Checks, Writes, Views, Reports, Lists, Points, Signers, Decodes, Encodes};
+ghost use Rattle.prosianek.specs.Calls.{Checks, Writes, Views, Reports, Lists, Points, Signers, Decodes, Encodes, FolderSteps, FolderEnds, Rows, Lasts};
 ghost use Rattle.points.specs.Calls.{five};
 use fascn::Decoded;
 use fascn::Numbers;
+use pieces::State;
 use points::Listed;
 use points::Point;
 use sheet::Checked;
+use summary::Rowed;
+use summary::Tally;
 use verdicts::Done;
 
 // Whether a container conforms, or the first broken rule, its place and the tag there; and the value sheet of one that does, where
@@ -108,4 +111,41 @@ pub fn encode(numbers: Numbers, room: &mut [u8]) -> u64
     ensures { λ r. ⌜ Encodes numbers (now (room .entry)) (now (room .exit)) r ⌝ }
 {
     fascn::encode(numbers, room)
+}
+
+// A folder is gone over before any container of it is looked at: a piece of it more, of any size. The state begins as zeros.
+pub fn folder_step(state: State, piece: &[u8]) -> State
+    ensures { λ r. ⌜ FolderSteps state (now (piece .entry)) r ⌝ }
+{
+    pieces::step(state, piece)
+}
+
+// Whether the pieces are a folder: 2 if today is no date, 32 if they are none, else 0.
+pub fn folder_end(today: u64, state: State) -> u64
+    ensures { λ r. ⌜ FolderEnds today state r ⌝ }
+{
+    pieces::finish(today, state)
+}
+
+// The row of a folder's container, whose first byte stands at this offset of the folder and which has this size: one over 32,768
+// bytes is judged by its size, and what is lent for it is not looked at. The tally begins as zeros and goes from row to row.
+pub fn row(
+    today: u64,
+    kind: u8,
+    offset: u64,
+    size: u64,
+    container: &[u8],
+    tally: Tally,
+    room: &mut [u8],
+) -> Rowed
+    ensures { λ r. ⌜ Rows today kind offset size (now (container .entry)) tally (now (room .entry)) (now (room .exit)) r ⌝ }
+{
+    summary::row(today, kind, offset, size, container, tally, room)
+}
+
+// A folder's two last lines, by the good and the agreement of its tally.
+pub fn last(good: u64, agreement: u64, room: &mut [u8]) -> Done
+    ensures { λ r. ⌜ Lasts good agreement (now (room .entry)) (now (room .exit)) r ⌝ }
+{
+    summary::last(good, agreement, room)
 }
