@@ -1,6 +1,6 @@
 // The four calls of a folder for C: include/prosianek.h declares them. A slice is a pointer and a length there, a lent number or array
-// a pointer. Each contract is one record of specs/Calls.antt.
-ghost use Rattle.cfolder.specs.Calls.{CFolderSteps, CFolderEnds, CRows, CLasts};
+// a pointer. Each contract is one record of specs/Folder.antt.
+ghost use Rattle.capi.specs.Folder.{CFolderSteps, CFolderEnds, CRows, CLasts};
 use pieces::State;
 use summary::Tally;
 
