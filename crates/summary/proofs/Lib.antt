@@ -1,2 +1,4 @@
 pub mod Laws
 pub mod Carriers
+pub mod Summing
+pub mod Agreeing

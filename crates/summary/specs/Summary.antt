@@ -2,7 +2,7 @@
 -- conform, then whether all FASC-N in conforming CHUID, FINGERS, FACE and iris containers agree (yes when fewer than two)."
 use Prim.Native.Nat.{ℕ, suc, _+_}
 use mathlib.Core.Path.{_≡_}
-use mathlib.Core.Logic.{_↔_}
+use mathlib.Core.Logic.{_⊎_, _↔_}
 use mathlib.Core.Bool.{Bool, true}
 use mathlib.Core.Option.{some}
 use mathlib.Core.List.{List, [], _∷_, _++_}
@@ -10,7 +10,8 @@ use lib.ListN.{length}
 use Rattle.pieces.specs.Folder.{Entry}
 use Rattle.container.specs.Container.{Values, Conforms}
 use Rattle.container.specs.Reading.{Parsed, values, fault, parsed, verdict}
-use Rattle.summary.specs.Rows.{rowText, lastText, carried}
+use Rattle.summary.specs.Rows.{rowText, lastText, carried, tallied}
+use Rattle.summary.specs.declared.Tally.{Tally}
 
 -- ---- the rows
 
@@ -21,6 +22,11 @@ firstOffset = 7
 abbrev pub nextOffset : ℕ → Entry → ℕ
 nextOffset at e = at + length (e .bytes) + 5
 
+-- the offset of the container that would come after these
+abbrev pub offsetAfter : ℕ → List Entry → ℕ
+offsetAfter at [] = at
+offsetAfter at (e ∷ es) = offsetAfter (nextOffset at e) es
+
 -- "Each row depends on today, its own kind, container and offset alone."
 abbrev pub rowFor : ℕ → ℕ → Entry → List ℕ
 rowFor today at e = rowText (e .kind) at (length (e .bytes)) (verdict (e .kind) today (e .bytes))
@@ -28,6 +34,14 @@ rowFor today at e = rowText (e .kind) at (length (e .bytes)) (verdict (e .kind) 
 abbrev pub rowsFrom : ℕ → ℕ → List Entry → List ℕ
 rowsFrom today at [] = []
 rowsFrom today at (e ∷ es) = rowFor today at e ++ rowsFrom today (nextOffset at e) es
+
+-- the state after some entries, which goes from row to row; what it says is what the last lines say (`agrees`, `counts` in `proofs/`)
+abbrev pub afterOne : ℕ → Entry → Tally → Tally
+afterOne today e t = tallied (e .kind) (parsed (e .kind) today (e .bytes)) t
+
+abbrev pub after : ℕ → List Entry → Tally → Tally
+after today [] t = t
+after today (e ∷ es) t = after today es (afterOne today e t)
 
 -- ---- the last lines
 
@@ -47,9 +61,9 @@ pub record Carries (today : ℕ) (e : Entry) (f : List ℕ) : Type 0 where
   pub carries : carried (e .kind) vs ≡ some f
 
 -- it stands in the folder
-pub data Among (e : Entry) : List Entry → Type 0 where
-  here : {es : List Entry} → Among e (e ∷ es)
-  there : {f : Entry} {es : List Entry} → Among e es → Among e (f ∷ es)
+abbrev pub Among : Entry → List Entry → Type 0
+Among e [] = ⊥
+Among e (f ∷ es) = (e ≡ f) ⊎ Among e es
 
 -- "whether all FASC-N in conforming CHUID, FINGERS, FACE and iris containers agree (yes when fewer than two)"
 abbrev pub Agree : ℕ → List Entry → Type 0
