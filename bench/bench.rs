@@ -9,20 +9,23 @@
 
 use second::card::{all_kinds, kind_of, Rule, CONFORMS};
 use second::faces::{facial, Image};
+use second::folder::{entries, over, Entry, Seen, MOST_CONTAINERS, ROW_ROOM};
+use second::folders::{folder_of, Contained};
 use second::generate::{certificate_kinds, endless_row, Card, Form, Forms, LONGEST_FORM};
 use second::irises::{iris_record, pair_of};
 use second::report::LONGEST;
-use second::samples::{block, face, iris, with_block, RSA};
+use second::samples::{self, block, face, iris, with_block, RSA};
 use second::trees::{certificate_of_pairs, Tree};
 use second::values::IRIS_MOST_BYTES;
 use second::{number, tag_number, Which};
 use std::arch::asm;
-use std::ops::{Deref, DerefMut};
+use std::ops::{Deref, DerefMut, Range};
 use std::time::Instant;
 
 #[path = "../examples/rust/prosianek.rs"]
 mod prosianek;
 use prosianek::{prosianek_check, prosianek_fascn_decode, prosianek_fascn_encode};
+use prosianek::{prosianek_folder_end, prosianek_folder_step, prosianek_last, prosianek_row};
 use prosianek::{prosianek_lists, prosianek_report, prosianek_signer, prosianek_write};
 
 const TODAY: u64 = 2026_03_01;
@@ -110,6 +113,10 @@ enum Call {
     Signer,
     Decode,
     Encode,
+    /// Going over a folder, all its rows with the last lines, and one row.
+    Over,
+    Rows,
+    Row,
 }
 
 /// The name of a check that is asked for the verdict alone.
@@ -124,6 +131,8 @@ struct Case {
     input: Bytes,
     /// The CHUID that goes with a biometric whose signer is asked for; else no bytes.
     chuid: Bytes,
+    /// The containers of a folder.
+    entries: Vec<Entry>,
     numbers: [u64; 9],
     room: usize,
     /// The number that both have to answer.
@@ -131,14 +140,13 @@ struct Case {
 }
 
 /// Bytes that start at a multiple of 64: what memcpy and memset take depends on where they start.
-struct Bytes(Box<Aligned>, usize);
-
-#[repr(align(64))]
-struct Aligned([u8; 2 * LARGEST]);
+struct Bytes(Vec<u8>, Range<usize>);
 
 impl Bytes {
     fn filled(byte: u8, size: usize) -> Bytes {
-        Bytes(Box::new(Aligned([byte; 2 * LARGEST])), size)
+        let memory = vec![byte; size + 64];
+        let start = memory.as_ptr().align_offset(64);
+        Bytes(memory, start..start + size)
     }
 
     fn of(bytes: &[u8]) -> Bytes {
@@ -151,13 +159,13 @@ impl Bytes {
 impl Deref for Bytes {
     type Target = [u8];
     fn deref(&self) -> &[u8] {
-        &self.0 .0[..self.1]
+        &self.0[self.1.clone()]
     }
 }
 
 impl DerefMut for Bytes {
     fn deref_mut(&mut self) -> &mut [u8] {
-        &mut self.0 .0[..self.1]
+        &mut self.0[self.1.clone()]
     }
 }
 
@@ -177,8 +185,90 @@ fn room_of_lists(entries: usize) -> usize {
     5 * entries * std::mem::size_of::<u64>()
 }
 
+/// A folder is gone over in pieces of so many bytes, as a program reads a file.
+const PIECE: usize = 65_536;
+
+fn prosianek_over(today: u64, folder: &[u8]) -> u64 {
+    let mut state = [0; 3];
+    for piece in folder.chunks(PIECE) {
+        unsafe { prosianek_folder_step(&mut state, piece.as_ptr(), piece.len()) };
+    }
+    unsafe { prosianek_folder_end(today, &state) }
+}
+
+fn rust_over(today: u64, folder: &[u8]) -> u64 {
+    match second::values::is_date(today) {
+        false => number::TODAY,
+        true if over(folder, |_| ()) => number::DONE,
+        true => number::FOLDER,
+    }
+}
+
+/// The row of a container in a folder: number and length.
+fn prosianek_one_row(today: u64, entry: &Entry, container: &[u8], seen: &mut Seen, room: &mut [u8]) -> (u64, u64) {
+    let mut length = 0;
+    let number = unsafe {
+        prosianek_row(
+            today,
+            entry.kind,
+            entry.offset as u64,
+            entry.size as u64,
+            container.as_ptr(),
+            container.len(),
+            &mut seen.good,
+            &mut seen.agreement,
+            &mut seen.fascn,
+            room.as_mut_ptr(),
+            room.len(),
+            &mut length,
+        )
+    };
+    (number, length)
+}
+
+fn rust_one_row(today: u64, entry: &Entry, container: &[u8], seen: &mut Seen, room: &mut [u8]) -> (u64, u64) {
+    second::row(today, entry.kind, entry.offset as u64, entry.size as u64, container, seen, room)
+}
+
+fn prosianek_last_lines(seen: &Seen, room: &mut [u8]) -> (u64, u64) {
+    let mut length = 0;
+    let number = unsafe { prosianek_last(seen.good, seen.agreement, room.as_mut_ptr(), room.len(), &mut length) };
+    (number, length)
+}
+
+fn rust_last_lines(seen: &Seen, room: &mut [u8]) -> (u64, u64) {
+    second::last(seen.good, seen.agreement, room)
+}
+
+/// All rows of a folder and the last lines, one behind the other, each with 64 bytes of room: the largest number and the whole length.
+fn rows(
+    case: &Case,
+    room: &mut [u8],
+    row: impl Fn(u64, &Entry, &[u8], &mut Seen, &mut [u8]) -> (u64, u64),
+    last: impl Fn(&Seen, &mut [u8]) -> (u64, u64),
+) -> (u64, u64, Seen) {
+    let (mut largest, mut at, mut seen) = (0, 0, Seen::default());
+    for entry in &case.entries {
+        let container = entry.container(&case.input);
+        let (number, length) = row(case.today, entry, container, &mut seen, &mut room[at..at + ROW_ROOM]);
+        largest = largest.max(number);
+        at += length as usize;
+    }
+    let (number, length) = last(&seen, &mut room[at..at + ROW_ROOM]);
+    (largest.max(number), at as u64 + length, seen)
+}
+
+/// What was seen in a folder as nine numbers: how many conform, the agreement, and the FASC-N.
+fn numbers_of(seen: &Seen) -> [u64; 9] {
+    let mut numbers = [seen.good, seen.agreement, 0, 0, 0, 0, 0, 0, 0];
+    for (slot, eight) in numbers[2..].iter_mut().zip(seen.fascn.chunks(8)) {
+        *slot = eight.iter().fold(0, |number, &byte| number << 8 | u64::from(byte));
+    }
+    numbers
+}
+
 /// The numbers that Prosianek answers; 0 for those that the call does not have. Two counts of points stand first of the nine, or
-/// which container a certificate lies in and where.
+/// which container a certificate lies in and where, or what was seen in a folder.
 fn prosianek(case: &Case, room: &mut [u8], meter: &mut impl Meter) -> Vec<u64> {
     let (kind, today, input, size) = (case.kind, case.today, case.input.as_ptr(), case.input.len());
     let (to, room_size) = (room.as_mut_ptr(), room.len());
@@ -210,6 +300,19 @@ fn prosianek(case: &Case, room: &mut [u8], meter: &mut impl Meter) -> Vec<u64> {
             }
             Call::Decode => meter.measure(|| prosianek_fascn_decode(input, size, &mut numbers)),
             Call::Encode => meter.measure(|| prosianek_fascn_encode(&case.numbers, to, room_size)),
+            Call::Over => meter.measure(|| prosianek_over(today, &case.input)),
+            Call::Rows => {
+                let (number, all, seen) = meter.measure(|| rows(case, room, prosianek_one_row, prosianek_last_lines));
+                (length, numbers) = (all, numbers_of(&seen));
+                number
+            }
+            Call::Row => {
+                let mut seen = Seen::default();
+                let (number, line) =
+                    meter.measure(|| prosianek_one_row(today, &case.entries[0], &case.input, &mut seen, room));
+                (length, numbers) = (line, numbers_of(&seen));
+                number
+            }
         }
     };
     [&[number, place, tag, short, length], &numbers[..]].concat()
@@ -253,6 +356,18 @@ fn rust(case: &Case, room: &mut [u8], meter: &mut impl Meter) -> Vec<u64> {
             (number, 0, 0, 0, 0)
         }
         Call::Encode => (meter.measure(|| second::fascn_encode(&case.numbers, room)), 0, 0, 0, 0),
+        Call::Over => (meter.measure(|| rust_over(today, input)), 0, 0, 0, 0),
+        Call::Rows => {
+            let (number, length, seen) = meter.measure(|| rows(case, room, rust_one_row, rust_last_lines));
+            numbers = numbers_of(&seen);
+            (number, 0, 0, 0, length)
+        }
+        Call::Row => {
+            let mut seen = Seen::default();
+            let (number, length) = meter.measure(|| rust_one_row(today, &case.entries[0], input, &mut seen, room));
+            numbers = numbers_of(&seen);
+            (number, 0, 0, 0, length)
+        }
     };
     [&[number, place, tag, short, length], &numbers[..]].concat()
 }
@@ -423,6 +538,7 @@ fn container_cases(what: &str, kind: u64, container: &[u8]) -> Vec<Case> {
         today: TODAY,
         input: Bytes::of(input),
         chuid: Bytes::of(&[]),
+        entries: Vec::new(),
         numbers: [0; 9],
         room,
         number: 0,
@@ -496,6 +612,7 @@ fn signer_cases() -> Vec<Case> {
             today: TODAY,
             input: Bytes::of(&biometric),
             chuid: Bytes::of(&chuid),
+            entries: Vec::new(),
             numbers: [0; 9],
             room: 0,
             number: 0,
@@ -518,11 +635,48 @@ fn fascn_cases() -> Vec<Case> {
         today: TODAY,
         input: Bytes::of(fascn),
         chuid: Bytes::of(&[]),
+        entries: Vec::new(),
         numbers,
         room,
         number: 0,
     };
     vec![case("decode", Call::Decode, 0), case("encode", Call::Encode, fascn.len())]
+}
+
+/// A folder of as many containers as there may be: the samples in turn, of which some break a rule, and one that is too long. It is
+/// gone over, and all its rows are written; and the row of a CHUID, the first one of its folder.
+fn folder_cases() -> Vec<Case> {
+    let samples = samples::all();
+    let sample = |i: usize| (samples[i % samples.len()].kind as u8, samples[i % samples.len()].container.clone());
+    let mut containers: Vec<Contained> = (0..MOST_CONTAINERS).map(sample).collect();
+    containers[MOST_CONTAINERS / 2].1 = vec![0x53; LARGEST + 1];
+    let folder = folder_of(&containers);
+    let text = second::folder(TODAY, &folder).expect("a folder");
+    // behind the last row there are 64 bytes for the last lines
+    let last_lines = text.rsplitn(4, |&byte| byte == b'\n').skip(1).take(2).map(|line| line.len() + 1).sum::<usize>();
+    let room = text.len() - last_lines + ROW_ROOM;
+    let case = |what: String, name, call, input: &[u8], entries, room| Case {
+        what,
+        name,
+        call,
+        kind: CHUID,
+        today: TODAY,
+        input: Bytes::of(input),
+        chuid: Bytes::of(&[]),
+        entries,
+        numbers: [0; 9],
+        room,
+        number: 0,
+    };
+    let what = format!("{} containers, {} bytes", MOST_CONTAINERS, commas(folder.len() as u64));
+    let all = entries(&folder).expect("a folder");
+    let chuid = self::sample(CHUID);
+    let one = Entry { kind: CHUID as u8, offset: 7, size: chuid.len() };
+    vec![
+        case(what.clone(), "folder, gone over", Call::Over, &folder, Vec::new(), 0),
+        case(what, "rows and last lines", Call::Rows, &folder, all, room),
+        case(format!("CHUID typical, {} bytes", chuid.len()), "row", Call::Row, &chuid, vec![one], ROW_ROOM),
+    ]
 }
 
 /// The check of a container of no bytes, which ends behind the date check: that the outer tag is missing is said under a day that
@@ -536,6 +690,7 @@ fn day_cases() -> Vec<Case> {
         today: day.replace('-', "").parse().unwrap(),
         input: Bytes::of(&[]),
         chuid: Bytes::of(&[]),
+        entries: Vec::new(),
         numbers: [0; 9],
         room: 0,
         number,
@@ -583,6 +738,7 @@ fn tables() -> Vec<(&'static str, Vec<Case>)> {
         ("By the number of points", points),
         ("The signer, with a CHUID and a biometric", signer_cases()),
         ("The date check, day by day", day_cases()),
+        ("The order's folder", folder_cases()),
     ]
 }
 

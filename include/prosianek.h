@@ -1,26 +1,30 @@
-// The eight calls of Prosianek for C and C++: PIV card data containers (SP 800-73-4) checked and read, written, viewed and
-// reported, the points of a FINGERS container as lists, the certificate of a biometric's signer, and FASC-N numbers alone.
+// The twelve calls of Prosianek for C and C++: PIV card data containers (SP 800-73-4) checked and read, written, viewed and
+// reported, the points of a FINGERS container as lists, the certificate of a biometric's signer, FASC-N numbers alone, and the
+// summary of an order's folder, a file of containers.
 // crates/capi/src/lib.rt of the repository has the functions with their contracts. They are in libprosianek.a, which links into
 // x86-64 programs and needs only the C library's memory functions:
 //     cc program.c $(pkg-config --cflags --libs prosianek)
 //
-// What is proved: every call ends and answers, whatever the bytes, dates, tags and sizes are; number, place, tag, offset, length,
-// counts and which container, each byte of a lent room and each number of a lent list are what the contract says. The caller need
-// not have checked anything. The calls keep nothing from one call to the next.
+// What is proved: every call ends and answers, whatever the bytes, dates, tags, sizes and states are; number, place, tag, offset,
+// length, counts and which container, each byte of a lent room, each number of a lent list and all of a lent state are what the
+// contract says. The caller need not have checked anything. The calls keep nothing from one call to the next: what a folder needs
+// from one call to the next is a state that the caller lends.
 //
 // What a C caller owes, because nothing on this side of the border can check it:
 //   - a pointer is not null, also where its size is 0: lend any byte there, or any number for a list;
-//   - a uint8_t pointer with a size is valid for so many bytes, and a list, a uint64_t pointer with a size, for so many
-//     numbers: to read where it is const, else to read and write. The earlier contents of a room or a list do not matter, but
-//     they have to be there to be cleared;
-//   - any other uint64_t pointer is valid for one number, or for nine where the parameter says [9];
+//   - a uint8_t pointer with a size, in the calls of a folder with a length, is valid for so many bytes, and a list, a uint64_t
+//     pointer with a size, for so many numbers: to read where it is const, else to read and write. The earlier contents of a room
+//     or a list do not matter, but they have to be there to be cleared;
+//   - any other uint64_t pointer is valid for one number, or for as many as the parameter says, [9] or [3], and fascn[25] for 25
+//     bytes;
 //   - every uint64_t pointer is aligned as usual, that of a list of size 0 too;
-//   - the rooms, the lists and the lent numbers of one call do not overlap each other, nor the call's input.
+//   - the rooms, the lists, the lent numbers and the states of one call do not overlap each other, nor the call's input.
 // If one of these fails, no promise holds.
 //
-// The number that each call answers is one of enum prosianek_number. A call writes each of its lent numbers on every
-// answer. A refusal (any number but 0) leaves the lent room, or each lent list, all zeros; a success leaves zeros after the
-// last byte of output, or after the last point. So the rest of a room or a list never shows what an earlier call left there.
+// The number that each call answers is one of enum prosianek_number; prosianek_folder_step alone answers none. A call writes each
+// of its lent numbers on every answer, but a refusal leaves the state of a folder as it was. A refusal (any number but 0) leaves
+// the lent room, or each lent list, all zeros; a success leaves zeros after the last byte of output, or after the last point. So
+// the rest of a room or a list never shows what an earlier call left there.
 #ifndef PROSIANEK_H
 #define PROSIANEK_H
 
@@ -44,6 +48,10 @@ enum {
     // Lists of this many numbers hold the points of any container: two views have at most 128 each, which is proved
     // (`most-points` in crates/promises/specs/Demands.antt).
     PROSIANEK_MOST_POINTS = 256,
+    // The most containers that a folder has.
+    PROSIANEK_MOST_CONTAINERS = 256,
+    // The smallest room for a row of a folder's summary and for its two last lines, which holds any of them.
+    PROSIANEK_ROW_ROOM = 64,
     // What stands for no tag in a verdict. No tag can be it, since a tag has one byte or two; 0 is the tag 00.
     PROSIANEK_NO_TAG = 65536
 };
@@ -96,7 +104,8 @@ enum prosianek_number {
     PROSIANEK_FASCN_DIFFER = 28,    // signer: the two containers carry different FASC-N
     PROSIANEK_BIOMETRIC_BLOCK = 29, // signer: the biometric's signature block is no SignedData
     PROSIANEK_CHUID_BLOCK = 30,     // signer: the CHUID's is needed, and is none
-    PROSIANEK_NEITHER_HOLDS = 31    // signer: neither holds a certificate
+    PROSIANEK_NEITHER_HOLDS = 31,   // signer: neither holds a certificate
+    PROSIANEK_TORN_FOLDER = 32      // folder: cut short, bytes left over, or a count above 256
 };
 
 // Which of the two containers of prosianek_signer is meant.
@@ -219,6 +228,60 @@ uint64_t prosianek_fascn_decode(const uint8_t *bytes, size_t size, uint64_t numb
 // Answers 0; else 7 if a number has too many digits, then 3 for a room under 25 bytes. The room then holds the 25 bytes and
 // zeros; on a refusal all zeros.
 uint64_t prosianek_fascn_encode(const uint64_t numbers[9], uint8_t *room, size_t size);
+
+// A folder is a file of containers: a count in two bytes, at most PROSIANEK_MOST_CONTAINERS, then for each container its kind in
+// one byte, its length in four, and its bytes. The numbers have the high byte first, and nothing follows the last container. Its
+// summary is a line for each container, the row, and two last lines. A caller goes through a folder so:
+//   1. Over it, in pieces of any size and in their order: prosianek_folder_step for each piece, then prosianek_folder_end. A
+//      folder that is refused here has no summary.
+//   2. From its start again, container by container: prosianek_row for each, in their order. One over
+//      PROSIANEK_LARGEST_CONTAINER bytes is told by its length alone: it need not be read, and nothing need be lent of it.
+//   3. prosianek_last for the two last lines.
+// The rows and the last lines, one behind the other, are the summary; after a refusal nothing follows.
+// That the file holds the same bytes both times is the caller's to see to, since nothing on this side of the border can: what is
+// proved of a folder is said of the one list of kinds and containers that its bytes spell.
+
+// A piece more of a folder that is gone over.
+//   state    lent: three numbers that are zeros before the first piece, and are then handed from piece to piece as they are left.
+//   piece    the piece's bytes, piece_length how many there are, which may be 0.
+void prosianek_folder_step(uint64_t state[3], const uint8_t *piece, size_t piece_length);
+
+// The end of a folder that was gone over.
+//   state    as the last piece left it, or zeros where there was none. It is only read.
+// Answers 0 if the pieces, joined, are a folder; else 2 if today is no date, then 32 if the folder is cut short, has bytes left
+// over or a count above 256. Nothing is said here of the containers.
+uint64_t prosianek_folder_end(uint64_t today, const uint64_t state[3]);
+
+// The row of one container: its kind, the offset of its first byte in the folder, its length, and the number, place and tag of
+// the verdict, with a space between and a line feed at the end, such as `2 7 61 0 0 --`. The numbers are decimal, and the tag is
+// as in a report. It has no personal value.
+//   kind     the byte that stands in the folder: one that is no kind gives a row with the number 1.
+//   offset   that of the container's first byte in the folder: 7 for the first one.
+//   size     the container's length, as the folder says it: one over 32,768 gives a row with the number 4, or with 1.
+//   container  the container's bytes, container_length how many there are: as many as size says. Where that is over 32,768
+//            nothing of it is looked at, and any bytes will do, or none.
+//   good, agreement, fascn  lent: the state of the summary, which is zeros before the first row, and is then handed from row to
+//            row as it is left. good is how many containers conform; agreement is 0 where no FASC-N was seen in them, 1 where all
+//            that were seen are alike, and any other number where they differ; fascn is the first that was seen. A row with the
+//            number 0 makes good one more, as far as 2^64 - 1, and looks at the FASC-N of a CHUID, FINGERS, FACE or IRIS: where
+//            agreement is 0, fascn becomes that one and agreement 1; where it is 1, it becomes 2 if fascn is another. Any other
+//            row and any refusal leave all three as they were. No row depends on them. The FASC-N is personal.
+//   room     the lent room, room_length its size, at least PROSIANEK_ROW_ROOM.
+//   length   the row's length with its line feed; 0 on a refusal.
+// Answers 0 if a row is written, also about a container that breaks a rule. Else 2 if today is no date, then 3 for a room under
+// 64 bytes, then 32 if size is at most 32,768 and container_length is another: the folder was cut short since it was gone over.
+// The room then holds the row and zeros; on a refusal all zeros.
+uint64_t prosianek_row(uint64_t today, uint8_t kind, uint64_t offset, uint64_t size, const uint8_t *container,
+                       size_t container_length, uint64_t *good, uint64_t *agreement, uint8_t fascn[25], uint8_t *room,
+                       size_t room_length, uint64_t *length);
+
+// The two last lines of a summary: `good N`, how many containers conform, and `agree yes` or `agree no`, whether all FASC-N in
+// conforming CHUID, FINGERS, FACE and IRIS containers are alike, as fewer than two are. Each is ended by a line feed.
+//   good, agreement  as the last row left them, or 0 where there was none: `agree yes` for an agreement of 0 or 1.
+//   room     the lent room, room_length its size, at least PROSIANEK_ROW_ROOM.
+//   length   the length of both lines; 0 on a refusal.
+// Answers 0, or 3 for a room under 64 bytes. The room then holds the lines and zeros; on a refusal all zeros.
+uint64_t prosianek_last(uint64_t good, uint64_t agreement, uint8_t *room, size_t room_length, uint64_t *length);
 
 #ifdef __cplusplus
 }

@@ -1,4 +1,4 @@
-//! The eight calls of Prosianek for Rust: safe functions over include/prosianek.h, which says more of each. To use them in a
+//! The twelve calls of Prosianek for Rust: safe functions over include/prosianek.h, which says more of each. To use them in a
 //! project of your own, copy this file, and give rustc the folder of libprosianek.a (`-L native=FOLDER`).
 //!
 //! What C callers have to see to, Rust's references bring: they are valid and never null, and what is lent for writing
@@ -29,6 +29,10 @@ pub const LARGEST_CONTAINER: usize = 32_768;
 pub const SHEET_ROOM: usize = 32_774;
 /// A list of this many points holds those of any container.
 pub const MOST_POINTS: usize = 256;
+/// The most containers that a folder has.
+pub const MOST_CONTAINERS: usize = 256;
+/// The smallest room for a row of a folder's summary and for its two last lines, which holds any of them.
+pub const ROW_ROOM: usize = 64;
 /// What prosianek_check, prosianek_write, prosianek_view, prosianek_lists and prosianek_signer write for no tag, which no tag can
 /// be. Refused has None for it.
 pub const NO_TAG: u64 = 65_536;
@@ -58,6 +62,27 @@ pub struct Point {
 pub enum Which {
     Chuid,
     Biometric,
+}
+
+/// How far a folder was gone over. The default is for the first piece.
+#[derive(Clone, Copy, Debug, Default, PartialEq, Eq)]
+pub struct State([u64; 3]);
+
+/// What the rows of a folder's summary have found so far: how many containers conform; 0 where no FASC-N was seen in these, 1
+/// where all that were seen are alike, and any other number where they differ; and the first of them, which is personal. The
+/// default is for the first row.
+#[derive(Clone, Copy, Debug, Default, PartialEq, Eq)]
+pub struct Tally {
+    pub good: u64,
+    pub agreement: u64,
+    pub fascn: [u8; FASCN_BYTES],
+}
+
+/// A row that was written: its length with its line feed, and the tally for the next row.
+#[derive(Clone, Copy, Debug, PartialEq, Eq)]
+pub struct Row {
+    pub length: usize,
+    pub tally: Tally,
 }
 
 // The functions themselves, as the header declares them.
@@ -140,6 +165,29 @@ extern "C" {
     ) -> u64;
     pub fn prosianek_fascn_decode(bytes: *const u8, size: usize, numbers: *mut [u64; 9]) -> u64;
     pub fn prosianek_fascn_encode(numbers: *const [u64; 9], room: *mut u8, size: usize) -> u64;
+    pub fn prosianek_folder_step(state: *mut [u64; 3], piece: *const u8, piece_length: usize);
+    pub fn prosianek_folder_end(today: u64, state: *const [u64; 3]) -> u64;
+    pub fn prosianek_row(
+        today: u64,
+        kind: u8,
+        offset: u64,
+        size: u64,
+        container: *const u8,
+        container_length: usize,
+        good: *mut u64,
+        agreement: *mut u64,
+        fascn: *mut [u8; FASCN_BYTES],
+        room: *mut u8,
+        room_length: usize,
+        length: *mut u64,
+    ) -> u64;
+    pub fn prosianek_last(
+        good: u64,
+        agreement: u64,
+        room: *mut u8,
+        room_length: usize,
+        length: *mut u64,
+    ) -> u64;
 }
 
 // In each unsafe block below: every pointer with its size is that of a slice, or of an array of this function that is at least
@@ -342,4 +390,70 @@ pub fn decode(bytes: &[u8]) -> Result<[u64; 9], Refused> {
 pub fn encode(numbers: &[u64; 9], room: &mut [u8]) -> Result<(), Refused> {
     let number = unsafe { prosianek_fascn_encode(numbers, room.as_mut_ptr(), room.len()) };
     answer(number, 0, NO_TAG, ())
+}
+
+/// Goes over a piece of a folder and gives the state for the next one.
+///
+/// A caller goes through a folder so: over it, in pieces of any size and in their order, by this function and then folder_end; from
+/// its start again, container by container, by row; then the two last lines, by last. That the file holds the same bytes both
+/// times is the caller's to see to.
+pub fn folder_step(mut state: State, piece: &[u8]) -> State {
+    unsafe { prosianek_folder_step(&mut state.0, piece.as_ptr(), piece.len()) };
+    state
+}
+
+/// Whether the pieces that led to this state are, joined, a folder: else 2 for today, or 32 for a folder that is cut short, has
+/// bytes left over or a count above 256.
+pub fn folder_end(today: u64, state: State) -> Result<(), Refused> {
+    let number = unsafe { prosianek_folder_end(today, &state.0) };
+    answer(number, 0, NO_TAG, ())
+}
+
+/// Writes the row of one container into the room, with the kind and the length (`size`) that stand in the folder and the offset of
+/// the container's first byte there, and gives the row's length and the tally for the next row. A container that breaks a rule
+/// gets a row, too, and so do a kind that is none and a container over 32,768 bytes, of which nothing need be lent. A refusal is
+/// 2, 3 or 32, and the tally then stays as it was.
+pub fn row(
+    today: u64,
+    kind: u8,
+    offset: u64,
+    size: u64,
+    container: &[u8],
+    mut tally: Tally,
+    room: &mut [u8],
+) -> Result<Row, Refused> {
+    let mut length = 0;
+    let number = unsafe {
+        prosianek_row(
+            today,
+            kind,
+            offset,
+            size,
+            container.as_ptr(),
+            container.len(),
+            &mut tally.good,
+            &mut tally.agreement,
+            &mut tally.fascn,
+            room.as_mut_ptr(),
+            room.len(),
+            &mut length,
+        )
+    };
+    let length = length as usize;
+    answer(number, 0, NO_TAG, Row { length, tally })
+}
+
+/// Writes the two last lines of a summary into the room, by the tally of the last row, and gives their length.
+pub fn last(tally: Tally, room: &mut [u8]) -> Result<usize, Refused> {
+    let mut length = 0;
+    let number = unsafe {
+        prosianek_last(
+            tally.good,
+            tally.agreement,
+            room.as_mut_ptr(),
+            room.len(),
+            &mut length,
+        )
+    };
+    answer(number, 0, NO_TAG, length as usize)
 }

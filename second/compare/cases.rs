@@ -1,19 +1,21 @@
 //! The worked cases of tests/cases, whose README.md says how they are written: each call is made by both programs. The inputs of
-//! the desk program are put into a folder, from where tests/worked-cases gives them to it.
+//! the desk program and the folders of orders are put into a folder, from where tests/worked-cases gives them to their programs.
 
 use crate::points::{by_library, by_second, Told};
-use crate::signer;
 use crate::trial::{Fault, Trial};
+use crate::{folder, signer};
 use second::batch::{Answer, Call, Record};
+use second::folder::Seen;
 use second::generate::plain;
 use second::points::KIND;
-use second::{Point, Which};
+use second::{folders, Point, Which};
 use std::collections::BTreeMap;
 use std::fs;
 
 /// What a case asks, and the answer that it gives.
 enum Case {
-    Called(Record, Answer),
+    /// Calls that have one answer.
+    Called(Vec<Record>, Answer),
     /// Today, the container, and what is told of its points with a list of so many.
     Points(u64, Vec<u8>, Told),
     /// Standard input, and what is printed.
@@ -52,8 +54,12 @@ impl Names {
         if call == "desk" {
             return Ok(Case::Desk(self.bytes(asked)?, text(told)));
         }
-        if call == "points" {
-            return self.points(asked, told);
+        match call {
+            "points" => return self.points(asked, told),
+            "folder" => return self.folder(asked, told),
+            "row" => return self.row(asked, told),
+            "last" => return last(asked, told),
+            _ => (),
         }
         let record = match call {
             "lists" => self.lists(asked)?,
@@ -61,7 +67,28 @@ impl Names {
             _ => self.record(call, asked)?,
         };
         let answer = self.answer(call, &record, told)?;
-        Ok(Case::Called(record, answer))
+        Ok(Case::Called(vec![record], answer))
+    }
+
+    /// A whole folder, in pieces of one byte and of as many as a program reads.
+    fn folder(&self, asked: &[&str], told: &[&str]) -> Outcome<Case> {
+        let (today, bytes) = (number(asked.first())?, self.bytes(&asked[1..])?);
+        let answer = match told {
+            ["refused", refusal] => Answer { number: number(Some(refusal))?, ..Answer::default() },
+            _ => Answer { text: text(told), ..Answer::default() },
+        };
+        let records = [1, 65_536].map(|piece| Record { today, ..folders::call(bytes.clone(), piece) });
+        Ok(Case::Called(records.to_vec(), answer))
+    }
+
+    /// A row of a folder, before which nothing was seen. What was seen with it is not told.
+    fn row(&self, asked: &[&str], told: &[&str]) -> Outcome<Case> {
+        let (today, kind, offset) = (number(asked.first())?, number(asked.get(1))?, number(asked.get(2))?);
+        let (size, room) = (number(asked.get(3))?, number(asked.get(4))? as usize);
+        let record = plain(Call::Row, kind, self.bytes(&asked[5..])?);
+        let record = Record { today, offset, size, room, fill: 0xFF, ..record };
+        let answer = Answer { seen: record.answer().seen, ..with_lines(room, told)? };
+        Ok(Case::Called(vec![record], answer))
     }
 
     /// A list of points, each written as its five numbers. It is told whole.
@@ -169,6 +196,30 @@ impl Names {
     }
 }
 
+/// The last lines of a folder. FASC-N agree where none were seen and where all were alike.
+fn last(asked: &[&str], told: &[&str]) -> Outcome<Case> {
+    let (good, room) = (number(asked.first())?, number(asked.get(2))? as usize);
+    let agreements = match asked.get(1) {
+        Some(&"yes") => [0, 1],
+        Some(&"no") => [2, u64::MAX],
+        _ => return Err("neither yes nor no".to_string()),
+    };
+    let record = Record { room, fill: 0xFF, ..plain(Call::Last, 0, Vec::new()) };
+    let with = |agreement| Record { seen: Seen { good, agreement, ..Seen::default() }, ..record.clone() };
+    Ok(Case::Called(agreements.map(with).to_vec(), with_lines(room, told)?))
+}
+
+/// A number, the length of the lines that are written into a room, and the lines.
+fn with_lines(size: usize, told: &[&str]) -> Outcome<Answer> {
+    let (number, length) = (number(told.first())?, number(told.get(1))?);
+    let mut room = if length == 0 { Vec::new() } else { text(&told[2..]) };
+    if room.len() as u64 != length || room.len() > size {
+        return Err(format!("{} bytes of lines", room.len()));
+    }
+    room.resize(size, 0);
+    Ok(Answer { number, length, room, ..Answer::default() })
+}
+
 /// The answer with the part of the container that is told by its offset and its length.
 fn with_part(answer: Answer, container: &[u8], offset: &str, length: &str) -> Outcome<Answer> {
     let (offset, length) = (number(Some(&offset))?, number(Some(&length))?);
@@ -249,21 +300,20 @@ struct Running<'a> {
     folder: &'a str,
     cases: usize,
     desk: usize,
+    folders: usize,
 }
 
 impl Running<'_> {
-    fn run(&mut self, case: &Case) -> Outcome<()> {
+    /// Runs a case. Handed out is the name of what was put into the folder for a program.
+    fn run(&mut self, case: &Case) -> Outcome<Option<String>> {
         self.cases += 1;
         match case {
-            Case::Called(record, expected) => {
-                let answer = record.answer();
-                if answer != *expected {
-                    return Err(format!("the second program answers {:?}", answer));
+            Case::Called(records, expected) => {
+                records.iter().try_for_each(|record| self.call(record, expected))?;
+                match records.first() {
+                    Some(record) if record.call == Call::Folder => self.keep_folder(record, expected).map(Some),
+                    _ => Ok(None),
                 }
-                let outcome = self.trial.run(record, expected, &Fault::None);
-                outcome.map_err(|wrong| format!("the library: {}", self.trial.tell(record, wrong)))?;
-                let told = if record.call == Call::Signer { signer::difference(record, expected) } else { None };
-                told.map_or(Ok(()), Err)
             }
             Case::Points(today, container, expected) => {
                 let size = expected.2.len();
@@ -275,7 +325,7 @@ impl Running<'_> {
                         return Err(format!("the {} answers {:?}", who, told));
                     }
                 }
-                Ok(())
+                Ok(None)
             }
             Case::Desk(input, expected) => {
                 self.desk += 1;
@@ -283,23 +333,51 @@ impl Running<'_> {
                 if printed != *expected {
                     return Err(format!("the second program prints {}", String::from_utf8_lossy(&printed)));
                 }
-                self.keep("input", input)?;
-                self.keep("expected", expected)
+                let name = self.desk.to_string();
+                self.keep(&name, "input", input)?;
+                self.keep(&name, "expected", expected)?;
+                Ok(Some(name))
             }
         }
     }
 
-    /// Puts what belongs to a case of the desk into the folder.
-    fn keep(&self, what: &str, bytes: &[u8]) -> Outcome<()> {
-        let path = format!("{}/{}.{}", self.folder, self.desk, what);
+    /// Makes a call by both programs.
+    fn call(&mut self, record: &Record, expected: &Answer) -> Outcome<()> {
+        let answer = record.answer();
+        if answer != *expected {
+            return Err(format!("the second program answers {:?}", answer));
+        }
+        let outcome = self.trial.run(record, expected, &Fault::None);
+        outcome.map_err(|wrong| format!("the library: {}", self.trial.tell(record, wrong)))?;
+        let told = match record.call {
+            Call::Signer => signer::difference(record, expected),
+            _ => folder::difference(record, expected),
+        };
+        told.map_or(Ok(()), Err)
+    }
+
+    /// Puts an order's folder into the folder, with today and what is printed.
+    fn keep_folder(&mut self, record: &Record, expected: &Answer) -> Outcome<String> {
+        self.folders += 1;
+        let name = format!("folder-{}", self.folders);
+        let refusal = format!("refused {}\n", expected.number);
+        let printed = if expected.number == 0 { &expected.text } else { refusal.as_bytes() };
+        self.keep(&name, "folder", &record.bytes)?;
+        self.keep(&name, "today", format!("{:08}\n", record.today).as_bytes())?;
+        self.keep(&name, "expected", printed)?;
+        Ok(name)
+    }
+
+    /// Puts what belongs to a case of a program into the folder.
+    fn keep(&self, name: &str, what: &str, bytes: &[u8]) -> Outcome<()> {
+        let path = format!("{}/{}.{}", self.folder, name, what);
         fs::write(&path, bytes).map_err(|error| format!("{}: {}", path, error))
     }
 
     fn run_line(&mut self, names: &mut Names, place: &str, line: &str) -> Outcome<()> {
         if let Some(case) = names.line(line)? {
-            self.run(&case)?;
-            if matches!(case, Case::Desk(..)) {
-                self.keep("line", format!("{}: {}\n", place, line).as_bytes())?;
+            if let Some(name) = self.run(&case)? {
+                self.keep(&name, "line", format!("{}: {}\n", place, line).as_bytes())?;
             }
         }
         Ok(())
@@ -308,7 +386,7 @@ impl Running<'_> {
 
 /// Runs the cases of the files, tells each that fails, and gives whether none did.
 pub fn all_hold(folder: &str, files: &[&str]) -> bool {
-    let mut running = Running { trial: Trial::new(4), folder, cases: 0, desk: 0 };
+    let mut running = Running { trial: Trial::new(4), folder, cases: 0, desk: 0, folders: 0 };
     let mut bad = 0;
     for file in files {
         let (mut names, before) = (Names::default(), running.cases);

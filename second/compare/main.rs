@@ -4,7 +4,7 @@
 //!
 //!     compare calls SEED COUNT        the named calls, COUNT made calls, and the sweep
 //!     compare planted SEED            tries the comparison itself, with planted faults
-//!     compare cases FOLDER FILE..     worked cases; the inputs of the desk program are put into the folder
+//!     compare cases FOLDER FILE..     worked cases; what programs are tried with is put into the folder
 //!     compare certificates FILE..     certificates in DER, as they are and damaged
 
 use second::batch::{Answer, Call, Record, Tally};
@@ -14,6 +14,7 @@ use std::process::exit;
 
 mod cases;
 mod certificates;
+mod folder;
 mod planted;
 mod points;
 #[path = "../../examples/rust/prosianek.rs"]
@@ -50,6 +51,7 @@ impl Comparison {
         match record.call {
             Call::Lists => self.compare_points(record),
             Call::Signer => self.compare_signer(record, expected),
+            Call::Folder | Call::Row | Call::Last => self.compare_folder(record, expected),
             _ => (),
         }
     }
@@ -64,6 +66,13 @@ impl Comparison {
     /// The function for Rust has to tell the same of a signer, in its own words.
     fn compare_signer(&mut self, record: &Record, expected: &Answer) {
         if let Some(told) = signer::difference(record, expected) {
+            self.differs(|_| format!("{}\n  {}", told, call_text(record)));
+        }
+    }
+
+    /// So have the functions for Rust of a folder, whose whole summary has to be the same, in whatever pieces it comes.
+    fn compare_folder(&mut self, record: &Record, expected: &Answer) {
+        if let Some(told) = folder::difference(record, expected) {
             self.differs(|_| format!("{}\n  {}", told, call_text(record)));
         }
     }

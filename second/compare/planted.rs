@@ -2,18 +2,21 @@
 //! the byte where it was planted. So are the tags that a mistaken program would name, in calls on every fault of a container or
 //! a sheet, the places that one would give which takes every length for one in fewest bytes, and the numbers of one that judges a
 //! printed date, a facial or an iris record by another rule, or that still answers 8 to a report. So are the counts and the
-//! entries of one that takes points apart wrongly, and what one answers that looks for a signer elsewhere. 8 and 9 are planted on
-//! both sides too, where nothing differs.
+//! entries of one that takes points apart wrongly, what one answers that looks for a signer elsewhere, and the lines and states of
+//! one that goes through a folder wrongly. 8 and 9 are planted on both sides too, where nothing differs.
 
+use crate::folder::difference;
 use crate::trial::{call_text, native, Fault, Sort, Stretch, Trial, Wrong, LISTS};
 use second::batch::{Answer, Call, Record};
 use second::card::{kind_of, length_at, walk};
 use second::generate::{fewest, Inputs, Rng};
 use second::points::MOST_POINTS;
-use second::{dates, faces, faults, fingers, irises, lengths, longest, pairs, points, tag_number, Point, NO_TAG};
+use second::{dates, faces, faults, fingers, folders, irises, lengths, longest, pairs, points};
+use second::{tag_number, Point, NO_TAG};
 use std::collections::BTreeMap;
 use std::ops::Range;
 
+mod folder;
 mod signer;
 
 /// So many of the made calls of each sort.
@@ -23,7 +26,7 @@ const CALLS: usize = 300;
 const SHOWN: usize = 5;
 
 /// Faults are planted in each of these.
-const STRETCHES: [&str; 20] = [
+const STRETCHES: [&str; 24] = [
     "number",
     "place",
     "tag",
@@ -43,6 +46,10 @@ const STRETCHES: [&str; 20] = [
     "second",
     "input",
     "chuid",
+    "state",
+    "good",
+    "agreement",
+    "fascn",
     "guard",
 ];
 
@@ -66,7 +73,11 @@ fn faults_after(stretch: &Stretch, rng: &mut Rng) -> Vec<Planted> {
         (Sort::Input, _) => some_bytes(range).into_iter().map(changed).collect(),
         // a part is fetched after the call, so that a change of it before would be undone
         (Sort::Lent, "part") => some_bytes(range).into_iter().map(expected).collect(),
-        (Sort::Lent, _) => some_bytes(range).into_iter().flat_map(|at| [changed(at), expected(at)]).collect(),
+        (Sort::Lent | Sort::Held, _) => {
+            some_bytes(range).into_iter().flat_map(|at| [changed(at), expected(at)]).collect()
+        }
+        // it is not compared
+        (Sort::Kept, _) => Vec::new(),
     }
 }
 
@@ -78,6 +89,10 @@ fn faults_before(stretch: &Stretch) -> Vec<Planted> {
     let whole = stretch.range.clone();
     match stretch.sort {
         Sort::Input => Vec::new(),
+        Sort::Held | Sort::Kept => {
+            let disturbed = |at| ("another before", Fault::Disturbed(at), Wrong::Filling(at));
+            some_bytes(&whole).into_iter().map(disturbed).collect()
+        }
         Sort::Guard => vec![planted("zeros before", Fault::NoGuard, whole)],
         Sort::Lent => {
             let bytes = some_bytes(&whole).into_iter().map(|at| at..at + 1);
@@ -101,7 +116,8 @@ fn faults_of_both(stretch: &Stretch) -> Vec<Planted> {
     }
 }
 
-/// The mistakes that are made in a number that is lent, each with the name of that. Those about a signer are [`signer::MISTAKES`].
+/// The mistakes that are made in a number that is lent, each with the name of that. Those about a signer are [`signer::MISTAKES`], and
+/// those about a folder [`folder::MISTAKES`].
 const MISTAKES: [(&str, &str); 59] = [
     ("number", "16 for no date"),
     ("number", "23 for no date"),
@@ -282,13 +298,20 @@ fn mistaken_for_lists(record: &Record, expected: &Answer) -> Vec<(&'static str, 
     }
 }
 
-/// A number that a mistaken program would answer instead of the right one: at this entry of the stretch of this name.
+/// What a mistaken program would answer instead of what is right: from this byte on of the stretch of this name.
 struct Mistake {
     name: &'static str,
     how: &'static str,
-    entry: usize,
-    number: u64,
-    right: u64,
+    from: usize,
+    wrong: Vec<u8>,
+    right: Vec<u8>,
+}
+
+impl Mistake {
+    /// Another number, at this entry of a list, or at the first where it is lent alone.
+    fn number(name: &'static str, how: &'static str, entry: usize, number: u64, right: u64) -> Mistake {
+        Mistake { name, how, from: 8 * entry, wrong: native(&[number]), right: native(&[right]) }
+    }
 }
 
 /// The counts and the points of a container that conforms, whether or not the lists of the call hold them.
@@ -305,7 +328,7 @@ fn mistaken_counts(record: &Record, expected: &Answer) -> Vec<Mistake> {
     let mut out = Vec::new();
     for (i, name) in ["first", "second"].into_iter().enumerate() {
         let right = expected.counts[i];
-        let mistake = |how, number| Mistake { name, how, entry: 0, number, right };
+        let mistake = |how, number| Mistake::number(name, how, 0, number, right);
         if expected.number == 0 {
             out.extend([mistake("the other view's", counts[1 - i]), mistake("of both views", sum)]);
         } else {
@@ -343,7 +366,7 @@ fn mistaken_entries(record: &Record, expected: &Answer) -> Vec<Mistake> {
     for (i, name) in LISTS.into_iter().enumerate() {
         let list = &expected.lists[i];
         let mut add = |how, entry: usize, number| {
-            out.extend(list.get(entry).map(|&right| Mistake { name, how, entry, number, right }))
+            out.extend(list.get(entry).map(|&right| Mistake::number(name, how, entry, number, right)))
         };
         if expected.number == 0 {
             for &(how, number) in &mistaken_numbers_of(last)[i] {
@@ -360,10 +383,11 @@ fn mistaken_entries(record: &Record, expected: &Answer) -> Vec<Mistake> {
     out
 }
 
-/// All mistakes in a call: numbers, tags, places and offsets, counts and entries, and what is wrong with a signer.
+/// All mistakes in a call: numbers, tags, places and offsets, counts and entries, and what is wrong with a signer or a folder.
 fn mistakes(record: &Record, expected: &Answer) -> Vec<Mistake> {
     let mut out = match record.call {
         Call::Signer => signer::mistakes(record, expected),
+        Call::Folder | Call::Row | Call::Last => folder::mistakes(record, expected),
         _ => mistakes_of_verdict(record, expected),
     };
     if record.call == Call::Lists {
@@ -371,14 +395,14 @@ fn mistakes(record: &Record, expected: &Answer) -> Vec<Mistake> {
         out.extend(mistaken_entries(record, expected));
     }
     // where a mistake makes no difference it is none
-    out.retain(|mistake| mistake.number != mistake.right);
+    out.retain(|mistake| mistake.wrong != mistake.right);
     out
 }
 
 /// Those in the number, the tag, the place and the offset of a call on one container.
 fn mistakes_of_verdict(record: &Record, expected: &Answer) -> Vec<Mistake> {
     let mut out = Vec::new();
-    let mut add = |name, how, number, right| out.push(Mistake { name, how, entry: 0, number, right });
+    let mut add = |name, how, number, right| out.push(Mistake::number(name, how, 0, number, right));
     for (how, number) in mistaken_numbers(record, expected) {
         add("number", how, number, expected.number);
     }
@@ -447,18 +471,28 @@ impl Trying {
         for mistake in mistakes(record, &expected) {
             self.plant_mistake(record, &expected, &mistake);
         }
+        for (how, text) in folder::mistaken_summaries(record, &expected) {
+            self.plant_summary(record, how, Answer { text, ..expected.clone() });
+        }
         Ok(())
     }
 
-    /// Plants a number in the place of the right one, where the call is lent one of that name.
+    /// Plants bytes in the place of the right ones, where the call is lent a stretch of that name.
     fn plant_mistake(&mut self, record: &Record, expected: &Answer, mistake: &Mistake) {
-        let &Mistake { name, how, entry, number, right } = mistake;
-        let stretch = self.trial.stretches().iter().find(|stretch| stretch.name == name);
-        if let Some(start) = stretch.map(|stretch| stretch.range.start + 8 * entry) {
-            let (wrong, right) = (native(&[number]), native(&[right]));
-            let at = start + wrong.iter().zip(&right).take_while(|(wrong, right)| wrong == right).count();
-            let fault = Fault::Mistaken(start..start + 8, number);
+        let Mistake { name, how, from, wrong, right } = mistake;
+        let stretch = self.trial.stretches().iter().find(|stretch| stretch.name == *name);
+        if let Some(start) = stretch.map(|stretch| stretch.range.start + from) {
+            let at = start + wrong.iter().zip(right).take_while(|(wrong, right)| wrong == right).count();
+            let fault = Fault::Mistaken(start, wrong.clone());
             self.expect_seen(record, expected, name, (how, fault, Wrong::Answer(at)));
+        }
+    }
+
+    /// Plants another summary of a folder than the library gives.
+    fn plant_summary(&mut self, record: &Record, how: &'static str, other: Answer) {
+        *self.planted.entry((how, "summary")).or_default() += 1;
+        if difference(record, &other).is_none() {
+            self.went_unseen(record, "summary", how);
         }
     }
 
@@ -467,24 +501,29 @@ impl Trying {
         let (how, fault, wrong) = planted;
         *self.planted.entry((how, name)).or_default() += 1;
         if self.trial.run(record, expected, &fault) != Err(wrong) {
-            self.unseen += 1;
-            if self.unseen <= SHOWN {
-                println!("not seen where it is: {}, {}\n  {}", name, how, call_text(record));
-            }
+            self.went_unseen(record, name, how);
+        }
+    }
+
+    fn went_unseen(&mut self, record: &Record, name: &str, how: &str) {
+        self.unseen += 1;
+        if self.unseen <= SHOWN {
+            println!("not seen where it is: {}, {}\n  {}", name, how, call_text(record));
         }
     }
 
     /// Says what was planted; gives whether all was seen, and something was planted everywhere.
     fn judge(&self) -> bool {
-        for what in ["changed", "another expected", "zeros before", "expected before"] {
+        for what in ["changed", "another expected", "zeros before", "expected before", "another before"] {
             let planted = |name| self.planted.get(&(what, name)).copied().unwrap_or_default();
             let texts: Vec<String> = STRETCHES.iter().map(|&name| format!("{}:{}", name, planted(name))).collect();
             println!("  {}: {}", what, texts.join(" "));
         }
         let mistaken = |name, how| self.planted.get(&(how, name)).copied().unwrap_or_default();
-        let mistakes = [&MISTAKES[..], &signer::MISTAKES].concat();
+        let mistakes = [&MISTAKES[..], &signer::MISTAKES, &folder::MISTAKES].concat();
         let numbers = ["number", "short", "tag", "place", "which", "offset", "length", "first", "second"];
-        for which in numbers.into_iter().chain(LISTS) {
+        let of_folders = ["room", "good", "agreement", "fascn", "summary"];
+        for which in numbers.into_iter().chain(LISTS).chain(of_folders) {
             let here = mistakes.iter().filter(|(name, _)| *name == which);
             let texts: Vec<String> = here.map(|&(name, how)| format!("{}: {}", how, mistaken(name, how))).collect();
             println!("  another {}, {}", which, texts.join(", "));
@@ -508,6 +547,7 @@ pub fn all_seen(seed: u64) -> bool {
         lengths::records,
         longest::records,
         pairs::records,
+        folders::records,
     ];
     let with_faults: Vec<Record> = edges.iter().flat_map(|records| records()).collect();
     let made = calls(seed);
@@ -521,7 +561,7 @@ pub fn all_seen(seed: u64) -> bool {
     }
     println!(
         "faults planted in {} calls of every sort, and mistakes in {} on dates, faces, fingers, irises, faults, longer forms, \
-         long reports and signers, one at a time:",
+         long reports, signers and folders, one at a time:",
         made.len(),
         with_faults.len()
     );

@@ -3,13 +3,17 @@
 //! All that a call gets lies in one memory, between guards. An image says what has to be there afterwards: the same
 //! guards, the same input, and in what is lent the expected answer. Before the call no lent byte is the one that is
 //! expected there, and none is zero, nor is one in the guards: so a byte that is not written shows, and one too many.
+//! A state that a call changes holds before it what the call is given, and afterwards what is expected.
 
 use crate::prosianek::{prosianek_check, prosianek_fascn_decode, prosianek_fascn_encode, prosianek_lists};
+use crate::prosianek::{prosianek_folder_end, prosianek_folder_step, prosianek_last, prosianek_row};
 use crate::prosianek::{prosianek_report, prosianek_signer, prosianek_view, prosianek_write};
-use second::batch::{Answer, Call, Record, BYTES_MAX, LIST_MAX, ROOM_MAX};
+use second::batch::{pieces, Answer, Call, Record, BYTES_MAX, LIST_MAX, ROOM_MAX};
+use second::folder::Seen;
 use second::generate::Rng;
 use second::{number, tag_number, Which};
 use std::ops::Range;
+use std::{ptr, slice};
 
 /// A guard has this many bytes, or a few more.
 const GUARD: usize = 64;
@@ -32,6 +36,10 @@ pub enum Sort {
     Input,
     /// Every byte is written, with the answer.
     Lent,
+    /// What the call reads, and then writes or leaves, with the answer.
+    Held,
+    /// What calls hand on to each other, beginning with zeros. What they put there is their own affair.
+    Kept,
 }
 
 /// A part of the memory. The stretches lie side by side, and are all of the memory that is in use.
@@ -63,10 +71,12 @@ pub enum Fault {
     Zeros(Range<usize>),
     /// Zeros are a guard.
     NoGuard(Range<usize>),
+    /// Before the call this byte is another one than the call should be given.
+    Disturbed(usize),
     /// After the call this byte is another one.
     Changed(usize),
-    /// After the call this lent number is another one, as a mistaken program would answer it.
-    Mistaken(Range<usize>, u64),
+    /// After the call the bytes from here on are others, as a mistaken program would answer them.
+    Mistaken(usize, Vec<u8>),
     /// Here another byte is expected than the right one: so what makes an answer of what is expected shows.
     Expected(usize),
     /// This number is expected here, and is there after the call: so both sides answer it.
@@ -104,7 +114,37 @@ fn lent(call: Call, expected: &Answer) -> Vec<(&'static str, Vec<u8>)> {
         Call::Signer => vec![place(), tag(), ("which", native(&[expected.which])), offset(), length()],
         Call::FascnDecode => vec![("numbers", native(&expected.numbers))],
         Call::FascnEncode => vec![room()],
+        Call::Folder => Vec::new(),
+        Call::Row | Call::Last => vec![room(), length()],
     }
+}
+
+/// The state that a row is lent, as it is given or as it is left.
+fn held(seen: &Seen) -> [(&'static str, Vec<u8>); 3] {
+    [("good", native(&[seen.good])), ("agreement", native(&[seen.agreement])), ("fascn", seen.fascn.to_vec())]
+}
+
+/// What stands where the pieces of a folder are lent, one after the other, behind the last of them. Each stands at the end: so what is
+/// behind it is never the next piece.
+fn last_pieces(record: &Record) -> Vec<u8> {
+    let pieces = pieces(&record.bytes, record.piece);
+    let mut out = vec![0; pieces.iter().map(|piece| piece.len()).max().unwrap_or(0)];
+    for piece in pieces {
+        let from = out.len() - piece.len();
+        out[from..].copy_from_slice(piece);
+    }
+    out
+}
+
+/// Goes over the pieces of a folder, each of which is put before this end, and answers as the last call does.
+unsafe fn go_over(record: &Record, state: *mut [u64; 3], end: *mut u8) -> u64 {
+    for piece in pieces(&record.bytes, record.piece) {
+        let start = end.sub(piece.len());
+        ptr::copy_nonoverlapping(piece.as_ptr(), start, piece.len());
+        prosianek_folder_step(state, start, piece.len());
+        assert!(slice::from_raw_parts(start, piece.len()) == piece, "a piece is changed: {}", call_text(record));
+    }
+    prosianek_folder_end(record.today, state)
 }
 
 /// A byte that is neither this one nor zero.
@@ -120,13 +160,16 @@ fn other(rng: &mut Rng, than: u8) -> u8 {
 pub struct Trial {
     rng: Rng,
     memory: Box<Memory>,
+    /// What is there before the call, but for what is lent.
+    before: Vec<u8>,
     image: Vec<u8>,
     stretches: Vec<Stretch>,
 }
 
 impl Trial {
     pub fn new(seed: u64) -> Trial {
-        Trial { rng: Rng::new(seed), memory: Box::new(Memory([0; MEMORY])), image: Vec::new(), stretches: Vec::new() }
+        let (before, image, stretches) = (Vec::new(), Vec::new(), Vec::new());
+        Trial { rng: Rng::new(seed), memory: Box::new(Memory([0; MEMORY])), before, image, stretches }
     }
 
     /// Makes the call and compares everything. Without a planted fault nothing should be wrong.
@@ -139,6 +182,7 @@ impl Trial {
         self.call(record);
         self.plant_after(fault);
         self.fetch_part();
+        self.pass_over_kept();
         self.look_after()?;
         self.look_for_unused()
     }
@@ -153,6 +197,7 @@ impl Trial {
 
     /// Lays out the stretches and makes the image.
     fn lay_out(&mut self, record: &Record, expected: &Answer) {
+        self.before.clear();
         self.image.clear();
         self.stretches.clear();
         // bytes, unlike numbers, come to stand at any address
@@ -161,10 +206,18 @@ impl Trial {
         self.put("number", Sort::Lent, 0, &native(&[expected.number]));
         match record.call {
             Call::FascnEncode => self.put("input", Sort::Input, 0, &native(&record.numbers())),
+            Call::Folder => self.put("input", Sort::Input, odd, &last_pieces(record)),
             _ => self.put("input", Sort::Input, odd, &record.bytes),
         }
-        if record.call == Call::Signer {
-            self.put("chuid", Sort::Input, record.chuid.len() % 8, &record.chuid);
+        match record.call {
+            Call::Signer => self.put("chuid", Sort::Input, record.chuid.len() % 8, &record.chuid),
+            Call::Folder => self.put("state", Sort::Kept, 0, &native(&[0; 3])),
+            Call::Row => {
+                for ((name, given), (_, left)) in held(&record.seen).iter().zip(held(&expected.seen)) {
+                    self.put_both(name, Sort::Held, if *name == "fascn" { odd } else { 0 }, given, &left);
+                }
+            }
+            _ => (),
         }
         for (name, bytes) in lent(record.call, expected) {
             self.put(name, Sort::Lent, if name == "room" { odd } else { 0 }, &bytes);
@@ -178,9 +231,15 @@ impl Trial {
 
     /// A guard, and then the stretch, at an address with this rest modulo eight.
     fn put(&mut self, name: &'static str, sort: Sort, rest: usize, bytes: &[u8]) {
+        self.put_both(name, sort, rest, bytes, bytes);
+    }
+
+    /// The same with the bytes before the call and those after it.
+    fn put_both(&mut self, name: &'static str, sort: Sort, rest: usize, before: &[u8], after: &[u8]) {
         self.put_guard(rest);
         let from = self.image.len();
-        self.image.extend(bytes);
+        self.before.extend(before);
+        self.image.extend(after);
         self.stretches.push(Stretch { name, sort, range: from..self.image.len() });
     }
 
@@ -190,16 +249,17 @@ impl Trial {
         for _ in from..to {
             self.image.push(other(&mut self.rng, 0));
         }
+        self.before.extend(&self.image[from..]);
         self.stretches.push(Stretch { name: "guard", sort: Sort::Guard, range: from..to });
     }
 
-    /// The memory is like the image, but for what is lent: there each byte is another one.
+    /// Fills the memory as it should be, and what is lent with bytes that are not the expected ones.
     fn fill(&mut self) {
-        let memory = &mut self.memory.0[..self.image.len()];
-        memory.copy_from_slice(&self.image);
+        let memory = &mut self.memory.0[..self.before.len()];
+        memory.copy_from_slice(&self.before);
         for stretch in self.stretches.iter().filter(|stretch| stretch.sort == Sort::Lent) {
-            for byte in &mut memory[stretch.range.clone()] {
-                *byte = other(&mut self.rng, *byte);
+            for at in stretch.range.clone() {
+                memory[at] = other(&mut self.rng, self.image[at]);
             }
         }
     }
@@ -208,10 +268,10 @@ impl Trial {
     fn look_before(&self) -> Result<(), Wrong> {
         for stretch in &self.stretches {
             for at in stretch.range.clone() {
-                let (is, expected) = (self.memory.0[at], self.image[at]);
+                let (is, given, expected) = (self.memory.0[at], self.before[at], self.image[at]);
                 let good = match stretch.sort {
-                    Sort::Guard => is == expected && is != 0,
-                    Sort::Input => is == expected,
+                    Sort::Guard => is == given && is != 0,
+                    Sort::Input | Sort::Held | Sort::Kept => is == given,
                     Sort::Lent => is != expected && is != 0,
                 };
                 if !good {
@@ -284,6 +344,20 @@ impl Trial {
                 }
                 Call::FascnDecode => prosianek_fascn_decode(input, size, at("numbers") as *mut [u64; 9]),
                 Call::FascnEncode => prosianek_fascn_encode(input as *const [u64; 9], at("room"), room),
+                Call::Folder => {
+                    let end = memory.add(self.range("input").end);
+                    go_over(record, at("state") as *mut [u64; 3], end)
+                }
+                Call::Row => {
+                    let (kind, offset, said) = (kind as u8, record.offset, record.size);
+                    let (good, agreement, fascn) = (lent("good"), lent("agreement"), at("fascn") as *mut [u8; 25]);
+                    let (to, length) = (at("room"), lent("length"));
+                    prosianek_row(today, kind, offset, said, input, size, good, agreement, fascn, to, room, length)
+                }
+                Call::Last => {
+                    let Seen { good, agreement, .. } = record.seen;
+                    prosianek_last(good, agreement, at("room"), room, lent("length"))
+                }
             }
         };
         let to = self.range("number");
@@ -320,6 +394,13 @@ impl Trial {
         let end = offset.checked_add(length).filter(|&end| end <= input.len() && length == to.len());
         if let Some(end) = end {
             self.memory.0.copy_within(input.start + offset..input.start + end, to.start);
+        }
+    }
+
+    /// What calls hand on to each other is not compared.
+    fn pass_over_kept(&mut self) {
+        for Stretch { range, .. } in self.stretches.iter().filter(|stretch| stretch.sort == Sort::Kept) {
+            self.image[range.clone()].copy_from_slice(&self.memory.0[range.clone()]);
         }
     }
 
@@ -372,12 +453,12 @@ impl Trial {
         let text = |stretch: &Stretch| {
             let bytes = &memory[stretch.range.clone()];
             let text = match stretch.name {
-                "room" | "part" => hex(bytes),
+                "room" | "part" | "fascn" => hex(bytes),
                 _ => decimal(&numbers(bytes)),
             };
             format!("{} {}", stretch.name, text)
         };
-        let lent = self.stretches.iter().filter(|stretch| stretch.sort == Sort::Lent);
+        let lent = self.stretches.iter().filter(|stretch| matches!(stretch.sort, Sort::Lent | Sort::Held));
         lent.map(text).collect::<Vec<_>>().join(", ")
     }
 
@@ -397,9 +478,11 @@ impl Trial {
             Fault::Foreseen(range) => self.memory.0[range.clone()].copy_from_slice(&self.image[range]),
             Fault::Zeros(range) => self.memory.0[range].fill(0),
             Fault::NoGuard(range) => {
+                self.before[range.clone()].fill(0);
                 self.image[range.clone()].fill(0);
                 self.memory.0[range].fill(0);
             }
+            Fault::Disturbed(at) => self.memory.0[at] ^= other(&mut self.rng, 0),
             _ => (),
         }
     }
@@ -407,9 +490,8 @@ impl Trial {
     fn plant_after(&mut self, fault: &Fault) {
         match fault.clone() {
             Fault::Changed(at) => self.memory.0[at] ^= other(&mut self.rng, 0),
-            Fault::Mistaken(range, number) | Fault::Shared(range, number) => {
-                self.memory.0[range].copy_from_slice(&native(&[number]))
-            }
+            Fault::Mistaken(at, bytes) => self.memory.0[at..at + bytes.len()].copy_from_slice(&bytes),
+            Fault::Shared(range, number) => self.memory.0[range].copy_from_slice(&native(&[number])),
             _ => (),
         }
     }
@@ -436,6 +518,12 @@ pub fn call_text(record: &Record) -> String {
     let lent = match record.call {
         Call::Lists => format!("lists {:?}", record.lists),
         Call::Signer => format!("chuid {}", hex(&record.chuid)),
+        Call::Folder => format!("pieces of {}", record.piece),
+        Call::Row | Call::Last => {
+            let Seen { good, agreement, fascn } = &record.seen;
+            let seen = format!("good {}, agreement {}, fascn {}", good, agreement, hex(fascn));
+            format!("offset {}, size {}, {}, room {}", record.offset, record.size, seen, record.room)
+        }
         _ => format!("room {}", record.room),
     };
     format!(

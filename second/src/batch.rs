@@ -1,6 +1,8 @@
 //! The calls of a batch, what is answered to them, and how often each number is.
 
 use crate::card::{self, Checked};
+use crate::folder::{self, Seen};
+use crate::generate::Rng;
 use crate::{number, points, report, signer, values, Which};
 use std::collections::BTreeMap;
 use std::fmt;
@@ -15,10 +17,13 @@ pub enum Call {
     Signer,
     FascnDecode,
     FascnEncode,
+    Folder,
+    Row,
+    Last,
 }
 
 impl Call {
-    pub const ALL: [Call; 8] = [
+    pub const ALL: [Call; 11] = [
         Call::Check,
         Call::Write,
         Call::View,
@@ -27,6 +32,9 @@ impl Call {
         Call::Signer,
         Call::FascnDecode,
         Call::FascnEncode,
+        Call::Folder,
+        Call::Row,
+        Call::Last,
     ];
 
     pub fn name(self) -> &'static str {
@@ -39,20 +47,31 @@ impl Call {
             Call::Signer => "signer",
             Call::FascnDecode => "decode",
             Call::FascnEncode => "encode",
+            Call::Folder => "folder",
+            Call::Row => "row",
+            Call::Last => "last",
         }
     }
 }
 
-/// No record has a larger room, more bytes, or a list of more numbers.
+/// No record has a larger room, more bytes, or a list of more numbers. A folder may have more, which comes in pieces.
 pub const ROOM_MAX: usize = 70_000;
 pub const BYTES_MAX: usize = 66_000;
 pub const LIST_MAX: usize = 1_000;
+pub const FOLDER_MAX: usize = 200_000;
+
+/// A folder comes in pieces of so many bytes: of one, as a program reads a file, or each of another size.
+pub const PIECES: [usize; 3] = [1, 65_536, ANY_SIZES];
+
+/// What stands for pieces of any sizes, of which some are empty.
+pub const ANY_SIZES: usize = 0;
 
 /// A call with all that it is given.
 #[derive(Clone, Debug, PartialEq, Eq)]
 pub struct Record {
     pub call: Call,
-    /// The call that fills lists has none: there it is [`points::KIND`], by which that call checks.
+    /// The call that fills lists has none: there it is [`points::KIND`], by which that call checks. That of a row is a byte. A folder
+    /// and its last lines have none.
     pub kind: u64,
     pub today: u64,
     /// The tag of the element that a view asks for.
@@ -63,10 +82,18 @@ pub struct Record {
     pub lists: [usize; 5],
     /// What the room or the lists hold before the second program's call, in each byte.
     pub fill: u8,
-    /// The container, the sheet or the FASC-N; nine numbers of eight bytes for an encoding; the biometric whose signer is asked for.
+    /// The container, the sheet or the FASC-N; nine numbers of eight bytes for an encoding; the biometric whose signer is asked for;
+    /// the whole folder.
     pub bytes: Vec<u8>,
     /// The CHUID that goes with that biometric. No other call has a second container: there it is empty.
     pub chuid: Vec<u8>,
+    /// Of how many bytes the pieces are in which a folder comes, as [`PIECES`] has them.
+    pub piece: usize,
+    /// Where a row's container begins in its folder, and how many bytes it has there.
+    pub offset: u64,
+    pub size: u64,
+    /// What the rows before have seen, and those before the last lines.
+    pub seen: Seen,
 }
 
 /// All that a call answers; 0 or nothing for what it does not answer.
@@ -94,6 +121,10 @@ pub struct Answer {
     pub counts: points::Counts,
     /// Their types, x, y, angles and qualities: each list whole, to its end.
     pub lists: [Vec<u64>; 5],
+    /// The whole summary of a folder; nothing where that is refused.
+    pub text: Vec<u8>,
+    /// What the rows have seen, with this one.
+    pub seen: Seen,
 }
 
 impl Record {
@@ -149,8 +180,37 @@ impl Record {
                 let number = values::fascn_encode(&self.numbers(), &mut room);
                 Answer { number, room, ..Answer::default() }
             }
+            Call::Folder => match folder::folder(today, bytes) {
+                Ok(text) => Answer { text, ..Answer::default() },
+                Err(number) => Answer { number, ..Answer::default() },
+            },
+            Call::Row => {
+                let mut seen = self.seen;
+                let (kind, offset, size) = (kind as u8, self.offset, self.size);
+                let (number, length) = folder::row(today, kind, offset, size, bytes, &mut seen, &mut room);
+                Answer { number, length, room, seen, ..Answer::default() }
+            }
+            Call::Last => {
+                let (number, length) = folder::last(self.seen.good, self.seen.agreement, &mut room);
+                Answer { number, length, room, ..Answer::default() }
+            }
         }
     }
+}
+
+/// The pieces of so many bytes in which a folder comes. Those of any sizes depend on its length alone.
+pub fn pieces(folder: &[u8], size: usize) -> Vec<&[u8]> {
+    if size != ANY_SIZES {
+        return folder.chunks(size).collect();
+    }
+    let (mut rng, mut out, mut rest) = (Rng::new(folder.len() as u64), Vec::new(), folder);
+    while !rest.is_empty() {
+        let most = rng.pick(&[0, 1, 7, 60, 3_000, 60_000]);
+        let (piece, behind) = rest.split_at(rng.size(0, most).min(rest.len()));
+        out.push(piece);
+        rest = behind;
+    }
+    out
 }
 
 /// A part of a container, with its offset there and its length.

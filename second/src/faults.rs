@@ -7,7 +7,7 @@ use crate::card::{self, all_kinds, Row, Rule};
 use crate::generate::{conforming_on, lengthened, plain, put_length, value_of};
 use crate::generate::{Card, Form, Forms, Rng, EXAMPLE_DAY};
 use crate::records::with_bytes;
-use crate::{trees, values, REPORT_MAX};
+use crate::{folders, trees, values, REPORT_MAX};
 use std::collections::BTreeSet;
 
 /// So many bytes hold the container of any sheet here.
@@ -40,6 +40,28 @@ pub fn records() -> Vec<Record> {
 /// The containers of a kind with a fault of a tag or a value.
 pub fn containers(kind: u64) -> Vec<Vec<u8>> {
     Whole::in_fewest_bytes(kind).faults()
+}
+
+/// Folders with one fault, number 32: cut off after each byte, with bytes left over, and with another count or another length, of
+/// which some are good again.
+pub fn folders() -> Vec<Vec<u8>> {
+    let whole = folders::small_folder();
+    let mut out: Vec<_> = (0..whole.len()).map(|end| whole[..end].to_vec()).collect();
+    // a byte, some more, and as many as make a container
+    for more in [&[0][..], &[0xFF], &[0; 4], &[3, 0, 0, 0, 0], &[0; 70_000]] {
+        out.push([&whole, more].concat());
+    }
+    out.extend(folders::with_other_numbers(&whole));
+    // a count above 256, whatever follows; a length at the front of nothing
+    for (count, behind) in
+        [(257u16, 5 * 257), (257, 0), (257, 5 * 256), (258, 5 * 258), (512, 5 * 512), (65_535, 1_285)]
+    {
+        out.push([&count.to_be_bytes()[..], &vec![0; behind]].concat());
+    }
+    for size in [1, 5, 256, 65_536, 1 << 24, u32::MAX - 7, u32::MAX - 6, u32::MAX - 1, u32::MAX] {
+        out.push([&[0, 1, 2][..], &size.to_be_bytes()].concat());
+    }
+    out
 }
 
 fn tag_bytes(tag: u16) -> Vec<u8> {

@@ -2,8 +2,9 @@
 
 use crate::batch::{Call, Record, BYTES_MAX, ROOM_MAX};
 use crate::card::{self, all_kinds, Rule, LAST_KIND, ROWS_MAX};
+use crate::folder::Seen;
 use crate::values::{self, fascn_encode, fascn_pack, fascn_values, is_date, Format, FACE, FINGERS, IRIS};
-use crate::{dates, faces, faults, fingers, irises, lengths, longest, pairs, trees};
+use crate::{dates, faces, faults, fingers, folders, irises, lengths, longest, pairs, trees};
 use crate::{CONTAINER_MAX, NO_TAG, REPORT_MAX, SHEET_ROOM};
 
 /// splitmix64.
@@ -195,7 +196,7 @@ pub fn fascn_numbers(rng: &mut Rng) -> [u64; 9] {
     numbers
 }
 
-fn fascn(rng: &mut Rng) -> Vec<u8> {
+pub fn fascn(rng: &mut Rng) -> Vec<u8> {
     let mut out = vec![0; 25];
     let numbers = if rng.one_in(16) { [0; 9] } else { fascn_numbers(rng) };
     fascn_encode(&numbers, &mut out);
@@ -1515,13 +1516,14 @@ fn random_record(rng: &mut Rng) -> Record {
         140..=319 => write_record(rng),
         320..=419 => fingers::record(rng),
         420..=529 => pairs::record(rng),
+        530..=609 => folders::record(rng),
         _ => container_record(rng),
     };
-    if matches!(record.call, Call::FascnDecode | Call::FascnEncode) {
+    if matches!(record.call, Call::FascnDecode | Call::FascnEncode | Call::Last) {
         return record;
     }
-    // a call that fills lists has no kind
-    if record.call != Call::Lists {
+    // a call that fills lists has no kind, nor has one on a folder, and that of a row is a byte
+    if !matches!(record.call, Call::Lists | Call::Folder | Call::Row) {
         if rng.one_in(40) {
             record.kind = strange_kind(rng, record.kind);
         } else if rng.one_in(50) {
@@ -1820,8 +1822,21 @@ pub fn certificate_card(kind: u64, certificate: Vec<u8>, extra: Option<usize>) -
 
 /// A call on the example's day, without a room, or with empty lists.
 pub fn plain(call: Call, kind: u64, bytes: Vec<u8>) -> Record {
-    let chuid = Vec::new();
-    Record { call, kind, today: EXAMPLE_DAY, element: 0, room: 0, lists: [0; 5], fill: 0, bytes, chuid }
+    Record {
+        call,
+        kind,
+        today: EXAMPLE_DAY,
+        element: 0,
+        room: 0,
+        lists: [0; 5],
+        fill: 0,
+        bytes,
+        chuid: Vec::new(),
+        piece: 0,
+        offset: 0,
+        size: 0,
+        seen: Seen::default(),
+    }
 }
 
 /// Certificates at their edges, each kind in turn: of 70 itself, of the length of 72, and of the whole container.
@@ -1946,6 +1961,7 @@ fn fixed_records() -> Vec<Record> {
     out.extend(lengths::records());
     out.extend(longest::records());
     out.extend(pairs::records());
+    out.extend(folders::records());
     out
 }
 
@@ -1956,8 +1972,8 @@ pub fn small_in_longest_forms() -> Vec<u8> {
 }
 
 /// Every container that differs from a small conforming one in one byte, and itself: checks, with a room that is as long as the
-/// sheet of that one. And calls that fill lists, with as many entries as it has points, and such as ask for a signer, with either
-/// container changed.
+/// sheet of that one. And calls that fill lists, with as many entries as it has points, such as ask for a signer, with either
+/// container changed, and such as go through a folder or write a row.
 pub fn sweep<F: FnMut(&Record)>(mut take: F) {
     let small = all_kinds().map(|kind| (kind, small(kind)));
     for (kind, container) in small.chain([(5, small_in_longest_forms())]) {
@@ -1968,6 +1984,9 @@ pub fn sweep<F: FnMut(&Record)>(mut take: F) {
     for pair in pairs::small_records() {
         take_each_byte_of(pair.clone(), |record| &mut record.chuid, &mut take);
         take_each_byte(pair, &mut take);
+    }
+    for record in folders::small_records() {
+        take_each_byte(record, &mut take);
     }
 }
 

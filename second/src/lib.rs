@@ -1,5 +1,5 @@
 //! The independent second program: it checks PIV data containers, gives their value sheets, writes, views and reports them, fills
-//! lists with the points of fingers, and finds the certificate of who signed a biometric.
+//! lists with the points of fingers, finds the certificate of who signed a biometric, and sums up a folder of containers.
 //!
 //! It is written from the scope page (01), the change requests (02) and the list of decided points
 //! alone, and serves as the partner that the proved program is compared with, and as the speed baseline.
@@ -12,11 +12,14 @@ pub mod der;
 pub mod faces;
 pub mod faults;
 pub mod fingers;
+pub mod folder;
+pub mod folders;
 pub mod generate;
 pub mod irises;
 pub mod lengths;
 pub mod longest;
 pub mod named;
+mod page;
 pub mod pairs;
 pub mod points;
 pub mod records;
@@ -27,6 +30,7 @@ pub mod trees;
 pub mod values;
 
 pub use card::{check, view, write, Checked, Verdict};
+pub use folder::{folder, last, row, Seen};
 pub use points::{lists, points, Point};
 pub use report::{desk, report};
 pub use signer::{signer, Which};
@@ -65,12 +69,13 @@ pub mod number {
     pub const BIOMETRIC_BLOCK: u64 = 29;
     pub const CHUID_BLOCK: u64 = 30;
     pub const NEITHER_HOLDS: u64 = 31;
+    pub const FOLDER: u64 = 32;
 
-    /// The last of them that a check answers: those behind it are of the two containers that a signer is found with.
+    /// The last of them that a check answers: those behind it are of the two containers that a signer is found with, and of a folder.
     pub const LAST_OF_CHECK: u64 = IRIS_RECORD;
 
     /// The last of them.
-    pub const LAST: u64 = NEITHER_HOLDS;
+    pub const LAST: u64 = FOLDER;
 
     /// The two below the last that no call answers.
     pub const UNUSED: [u64; 2] = [8, 9];

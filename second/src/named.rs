@@ -12,6 +12,7 @@ use crate::{CONTAINER_MAX, SHEET_ROOM};
 
 mod dates;
 mod faces;
+mod folder;
 mod irises;
 mod lengths;
 mod longest;
@@ -46,6 +47,7 @@ pub fn all() -> Vec<Group> {
         longest::all(),
         points::all(),
         signer::all(),
+        folder::all(),
     ]
     .concat()
 }

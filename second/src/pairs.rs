@@ -50,7 +50,7 @@ fn call(kind: u64, chuid: Vec<u8>, biometric: Vec<u8>) -> Record {
 }
 
 /// The FASC-N that differs in one digit of one of its nine numbers, by so much. Each is in the other's place as good.
-fn with_another_digit(fascn: &[u8], which: usize, place: u32, more: u64) -> Vec<u8> {
+pub fn with_another_digit(fascn: &[u8], which: usize, place: u32, more: u64) -> Vec<u8> {
     let (_, mut numbers) = fascn_decode(fascn);
     let unit = 10u64.pow(place);
     let digit = numbers[which] / unit % 10;
@@ -58,6 +58,21 @@ fn with_another_digit(fascn: &[u8], which: usize, place: u32, more: u64) -> Vec<
     let mut out = vec![0; FASCN_BYTES];
     fascn_encode(&numbers, &mut out);
     out
+}
+
+/// The same with any digit and any difference.
+pub fn with_any_other_digit(rng: &mut Rng, fascn: &[u8]) -> Vec<u8> {
+    let which = rng.size(0, 8);
+    let place = rng.below(u64::from(DIGITS[which])) as u32;
+    let more = 1 + rng.below(9);
+    with_another_digit(fascn, which, place, more)
+}
+
+/// The same with each digit, and three differences of each.
+pub fn each_other_digit(fascn: &[u8]) -> Vec<Vec<u8>> {
+    let places =
+        DIGITS.into_iter().enumerate().flat_map(|(which, digits)| (0..digits).map(move |place| (which, place)));
+    places.flat_map(|(which, place)| [1, 5, 9].map(|more| with_another_digit(fascn, which, place, more))).collect()
 }
 
 /// How many digits the nine numbers have.
@@ -116,17 +131,12 @@ fn another_fascn(rng: &mut Rng, pair: &Pair) -> Vec<u8> {
     if rng.one_in(8) {
         return EXAMPLE_FASCN.to_vec();
     }
-    let which = rng.size(0, 8);
-    let place = rng.below(u64::from(DIGITS[which])) as u32;
-    let more = 1 + rng.below(9);
-    let fascn = pair.chuid.rows[1].as_ref().expect("a CHUID has a FASC-N");
-    with_another_digit(fascn, which, place, more)
+    with_any_other_digit(rng, pair.chuid.rows[1].as_ref().expect("a CHUID has a FASC-N"))
 }
 
 /// A pair of which one container, or each, has about as many bytes as there may be. The long block has a long certificate, or none.
 fn large(rng: &mut Rng, mut pair: Pair) -> Record {
-    let sorts: [fn(usize) -> Vec<u8>; 2] =
-        [blocks::with_long_certificate, blocks::with_long_signature];
+    let sorts: [fn(usize) -> Vec<u8>; 2] = [blocks::with_long_certificate, blocks::with_long_signature];
     let long = rng.pick(&sorts);
     let total = match rng.below(4) {
         0 => rng.size(10_000, CONTAINER_MAX),
@@ -287,18 +297,12 @@ fn several_faults() -> Vec<Record> {
 /// FASC-N that differ in one digit, whichever it is, in either container; and the same in both.
 fn other_fascns() -> Vec<Record> {
     let mut out = Vec::new();
-    for (which, digits) in DIGITS.into_iter().enumerate() {
-        for place in 0..digits {
-            for more in [1, 5, 9] {
-                let other = with_another_digit(&EXAMPLE_FASCN, which, place, more);
-                let kind = KINDS[place as usize % 3];
-                let Pair { chuid, biometric, forms } = Pair::good(kind);
-                let (one, two) = (with_fascn(chuid.clone(), &other), with_fascn(biometric.clone(), &other));
-                for (chuid, biometric) in [(&one, &biometric), (&chuid, &two), (&one, &two)] {
-                    let pair = Pair { chuid: chuid.clone(), biometric: biometric.clone(), forms: forms.clone() };
-                    out.push(pair.record());
-                }
-            }
+    for (i, other) in each_other_digit(&EXAMPLE_FASCN).iter().enumerate() {
+        let Pair { chuid, biometric, forms } = Pair::good(KINDS[i / 3 % 3]);
+        let (one, two) = (with_fascn(chuid.clone(), other), with_fascn(biometric.clone(), other));
+        for (chuid, biometric) in [(&one, &biometric), (&chuid, &two), (&one, &two)] {
+            let pair = Pair { chuid: chuid.clone(), biometric: biometric.clone(), forms: forms.clone() };
+            out.push(pair.record());
         }
     }
     out

@@ -1,8 +1,10 @@
 //! The desk report and the desk program.
 
-use crate::card::{self, Row, Spans, Verdict, LAST_KIND};
-use crate::values;
-use crate::{number, CONTAINER_MAX, REPORT_MAX};
+use crate::card::{self, Row, Spans, LAST_KIND};
+use crate::{number, page, values, CONTAINER_MAX, REPORT_MAX};
+
+/// No report fills its page.
+type Page<'a> = page::Page<'a, REPORT_MAX>;
 
 /// How many bytes the longest report on a container of each kind has. It is that of a container which conforms, has every row,
 /// and has each row at a length with the most digits. The lines `CARD 4`, today, `verdict 0 0 --` and `OPEN n`, and the words
@@ -31,78 +33,6 @@ pub const LONGEST: [usize; LAST_KIND as usize] = [165, 171, 104, 148, 99, 118, 1
 /// is one that can be as long as the container allows.
 pub const LONGEST_REFUSED: [usize; LAST_KIND as usize] = [79, 83, 86, 83, 85, 85, 82, 85, 84, 85, 86, 82];
 
-/// The page that a report is written on: the front of the room. No report fills it.
-struct Page<'a> {
-    room: &'a mut [u8; REPORT_MAX],
-    length: usize,
-}
-
-impl Page<'_> {
-    fn bytes(&mut self, bytes: &[u8]) {
-        let end = self.length + bytes.len();
-        self.room[self.length..end].copy_from_slice(bytes);
-        self.length = end;
-    }
-
-    fn text(&mut self, text: &str) {
-        self.bytes(text.as_bytes());
-    }
-
-    /// Decimal, with zeros in front up to `width` digits.
-    fn decimal(&mut self, number: u64, width: usize) {
-        let mut digits = [b'0'; 20];
-        let mut at = digits.len();
-        let mut rest = number;
-        loop {
-            at -= 1;
-            digits[at] = b'0' + (rest % 10) as u8;
-            rest /= 10;
-            if rest == 0 {
-                break;
-            }
-        }
-        self.bytes(&digits[at.min(digits.len() - width)..]);
-    }
-
-    fn hex(&mut self, bytes: &[u8]) {
-        const DIGITS: &[u8; 16] = b"0123456789ABCDEF";
-        for &byte in bytes {
-            self.bytes(&[DIGITS[usize::from(byte >> 4)], DIGITS[usize::from(byte & 15)]]);
-        }
-    }
-
-    /// Two digits, or four for a tag of two bytes.
-    fn tag(&mut self, tag: u16) {
-        let bytes = tag.to_be_bytes();
-        self.hex(if tag > 0xFF { &bytes } else { &bytes[1..] });
-    }
-
-    fn end_line(&mut self) {
-        self.bytes(b"\n");
-    }
-
-    fn line(&mut self, name: &str, number: u64, width: usize) {
-        self.text(name);
-        self.bytes(b" ");
-        self.decimal(number, width);
-        self.end_line();
-    }
-
-    /// The line of a verdict that is not 0. Two hyphens stand for no tag.
-    fn verdict(&mut self, (number, place, tag): Verdict) {
-        self.text("verdict ");
-        self.decimal(number, 1);
-        self.bytes(b" ");
-        self.decimal(place, 1);
-        self.bytes(b" ");
-        match tag {
-            Some(tag) => self.tag(tag),
-            None => self.text("--"),
-        }
-        self.end_line();
-    }
-}
-
 /// Writes the report on a container into the room: number and length of the report.
 pub fn report(kind: u64, today: u64, container: &[u8], room: &mut [u8]) -> (u64, u64) {
     match try_report(kind, today, container, room) {
@@ -119,7 +49,7 @@ pub fn report(kind: u64, today: u64, container: &[u8], room: &mut [u8]) -> (u64,
 
 fn try_report(kind_number: u64, today: u64, container: &[u8], room: &mut [u8]) -> Result<usize, u64> {
     let kind = card::admit(kind_number, today)?;
-    let page = room.get_mut(..REPORT_MAX).and_then(|page| page.try_into().ok()).ok_or(number::ROOM)?;
+    let mut page = Page::of(room).ok_or(number::ROOM)?;
     if container.len() > CONTAINER_MAX {
         return Err(number::TOO_LONG);
     }
@@ -131,13 +61,13 @@ fn try_report(kind_number: u64, today: u64, container: &[u8], room: &mut [u8]) -
         count += 1;
     });
 
-    let mut page = Page { room: page, length: 0 };
     page.text("CARD 4\nkind ");
     page.text(kind.name);
     page.end_line();
     page.line("bytes", container.len() as u64, 1);
     page.line("today", today, 8);
     if let Err(broken) = outcome {
+        page.text("verdict ");
         page.verdict(broken);
         page.text("ELEMENTS 0\nOPEN 0\n");
     } else {
@@ -149,7 +79,7 @@ fn try_report(kind_number: u64, today: u64, container: &[u8], room: &mut [u8]) -
             row.and_then(|row| spans.value(row, container)).unwrap_or(&[])
         });
     }
-    Ok(page.length)
+    Ok(page.length())
 }
 
 /// The lines of the section ELEMENTS of a conforming container, whose values `value` finds by row.

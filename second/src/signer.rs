@@ -11,7 +11,7 @@ pub const KINDS: [u64; 3] = [6, 7, 12];
 pub const CHUID_KIND: u64 = 2;
 
 /// The rows of a CHUID's FASC-N, 30, and of its signature block, 3E.
-const FASCN_ROW: usize = 1;
+pub(crate) const FASCN_ROW: usize = 1;
 const BLOCK_ROW: usize = 7;
 
 /// The container that a certificate lies in, or that its check refuses.

@@ -1,8 +1,8 @@
 //! The made calls.
 
-use second::batch::{Call, Record, Tally, BYTES_MAX, LIST_MAX, ROOM_MAX};
+use second::batch::{Call, Record, Tally, BYTES_MAX, FOLDER_MAX, LIST_MAX, PIECES, ROOM_MAX};
 use second::generate::Inputs;
-use second::{check, number, points, SHEET_ROOM};
+use second::{check, number, points, Seen, SHEET_ROOM};
 use std::collections::BTreeSet;
 
 fn batch(seed: u64, count: usize) -> Vec<Record> {
@@ -12,17 +12,18 @@ fn batch(seed: u64, count: usize) -> Vec<Record> {
 
 #[test]
 fn batches_are_fixed() {
-    assert!(batch(7, 85_000) == batch(7, 85_000));
-    assert!(batch(7, 85_000) != batch(8, 70_000));
-    assert!(batch(7, 85_000).starts_with(&batch(7, 80_000)));
+    assert!(batch(7, 95_000) == batch(7, 95_000));
+    assert!(batch(7, 95_000) != batch(8, 95_000));
+    assert!(batch(7, 95_000).starts_with(&batch(7, 90_000)));
 }
 
 #[test]
 fn records_keep_to_the_limits() {
-    for record in batch(9, 95_000) {
-        assert!(record.room <= ROOM_MAX && record.bytes.len() <= BYTES_MAX);
+    for record in batch(9, 105_000) {
+        let most = if record.call == Call::Folder { FOLDER_MAX } else { BYTES_MAX };
+        assert!(record.room <= ROOM_MAX && record.bytes.len() <= most);
         assert!(record.element == 0 || record.call == Call::View);
-        let without_room = matches!(record.call, Call::View | Call::Signer | Call::FascnDecode);
+        let without_room = matches!(record.call, Call::View | Call::Signer | Call::FascnDecode | Call::Folder);
         assert!((record.room == 0 && record.fill == 0) || !without_room);
         if record.call == Call::Lists {
             assert!(record.lists.iter().all(|&size| size <= LIST_MAX));
@@ -34,13 +35,17 @@ fn records_keep_to_the_limits() {
         if record.call == Call::FascnEncode {
             assert_eq!(record.bytes.len(), 72);
         }
+        assert!(record.kind <= 255 || record.call != Call::Row);
+        assert!(PIECES.contains(&record.piece) && (record.piece == 0 || record.call == Call::Folder));
+        assert!((record.offset == 0 && record.size == 0) || record.call == Call::Row);
+        assert!(record.seen == Seen::default() || matches!(record.call, Call::Row | Call::Last));
     }
 }
 
 #[test]
 fn every_number_occurs() {
     let mut tally = Tally::default();
-    for record in batch(4, 80_000) {
+    for record in batch(4, 90_000) {
         tally.count(record.call, &record.answer());
     }
     assert_eq!(tally.never(), []);

@@ -222,7 +222,7 @@ fn strange_numbers_are_told() {
         assert_eq!(tally.strange(), [strange]);
     }
     let mut tally = Tally::default();
-    for number in (0..=7).chain(10..=31) {
+    for number in (0..=7).chain(10..=32) {
         tally.count(Call::Report, &Answer { number, ..Answer::default() });
     }
     assert_eq!((tally.never(), tally.strange()), (vec![], vec![]));

@@ -185,9 +185,8 @@ fn number_of(block: &[u8], chuid_block: &[u8]) -> u64 {
 #[test]
 fn numbers_of_containers() {
     assert_eq!([Which::Neither, Which::Chuid, Which::Biometric].map(|which| which as u64), [0, 1, 2]);
-    let numbers =
-        [number::FASCN_DIFFER, number::BIOMETRIC_BLOCK, number::CHUID_BLOCK, number::NEITHER_HOLDS, number::LAST];
-    assert_eq!(numbers, [28, 29, 30, 31, 31]);
+    let numbers = [number::FASCN_DIFFER, number::BIOMETRIC_BLOCK, number::CHUID_BLOCK, number::NEITHER_HOLDS];
+    assert_eq!(numbers, [28, 29, 30, 31]);
 }
 
 /// A block as a card has it, with real certificates and with none.

@@ -32,7 +32,7 @@ fn put_refused(number: u64, room: &mut [u8]) -> usize
 }
 
 // The same in a room that may hold anything: zeros behind it.
-fn refuse(number: u64, room: &mut [u8]) -> usize
+pub fn refuse(number: u64, room: &mut [u8]) -> usize
     ensures { λ r. ⌜ Put (refusedText number) (zeros (length (now (room .entry)))) (now (room .exit)) r ⌝ }
 {
     room::clear(room);

@@ -99,7 +99,7 @@ impl<'a> Mistakes<'a> {
             "offset" => offset,
             _ => length,
         };
-        self.out.push(Mistake { name, how, entry: 0, number, right });
+        self.out.push(Mistake::number(name, how, 0, number, right));
     }
 
     /// Where the certificate is that a refusal leaves.

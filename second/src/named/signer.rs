@@ -126,7 +126,7 @@ fn no_points() -> Vec<u8> {
 }
 
 /// A biometric of the worked cases, of this kind, with this FASC-N, these reserved bytes and this block.
-fn biometric_with(kind: u64, fascn: &[u8; 25], reserved: [u8; 4], block: &[u8]) -> Card {
+pub(super) fn biometric_with(kind: u64, fascn: &[u8; 25], reserved: [u8; 4], block: &[u8]) -> Card {
     let (head, record) = match kind {
         6 => (head_of([0x00, 0x1B, 0x02, 0x01], [0, 0, 8, 0x80]), no_points()),
         7 => (head_of([0x00, 0x1B, 0x05, 0x01], [0, 0, 2, 0x20]), least()),
@@ -176,7 +176,7 @@ fn a_block(kind: u64, block: &[u8], at: usize, length: usize) -> [Case; 2] {
 // Certificates that are found
 
 /// A FASC-N that differs from the example's in one digit.
-const P8: [u8; 25] = [
+pub(super) const P8: [u8; 25] = [
     0xD4, 0x11, 0x92, 0x58, 0x21, 0x0C, 0x2C, 0x10, 0x84, 0x21, 0xAD, 0xA1, 0x68, 0x58, 0x21, 0x08, 0x42, 0x10, 0x84,
     0x22, 0x84, 0x11, 0x92, 0x43, 0xF5,
 ];
