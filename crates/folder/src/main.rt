@@ -4,7 +4,10 @@
 ghost use mathlib.Core.Bool.{true, false};
 ghost use mathlib.Core.Path.{_≡_};
 ghost use Prim.Native.Nat.{_<_};
-ghost use lib.ListN.{length};
+ghost use lib.ListN.{length, take};
+ghost use mathlib.Core.List.{_++_};
+ghost use Rattle.laws.specs.Ascii.{ascii};
+ghost use Rattle.laws.specs.Room.{Put};
 ghost use Rattle.io.specs.Counts.{Counts};
 ghost use Rattle.dates.specs.Date.{IsDate};
 ghost use Rattle.folder.specs.Going.{textSize, lentOf, SoFar, Goes, Summarises};
@@ -36,18 +39,18 @@ fn refuse(number: u64) {
     io::write_all(STDOUT_FILENO, &room[..n]);
 }
 
-// Where standard error is a terminal, how much was gone over: a line that takes the place of the one before.
+// Where standard error is a terminal, how much was gone over: a line that the next one, or any message, is written over.
 fn show_progress(turns: u64) {
     if turns % 1024 == 0 && libc::isatty(STDERR_FILENO) == 1 {
-        io::write_all(STDERR_FILENO, b"\rfolder: ");
+        io::write_all(STDERR_FILENO, b"folder: ");
         io::print_decimal(STDERR_FILENO, turns / 16);
-        io::write_all(STDERR_FILENO, b" MiB gone over");
+        io::write_all(STDERR_FILENO, b" MiB gone over\r");
     }
 }
 
 fn clear_progress(turns: u64) {
     if 1024 <= turns && libc::isatty(STDERR_FILENO) == 1 {
-        io::write_all(STDERR_FILENO, b"\r\x1B[K");
+        io::write_all(STDERR_FILENO, b"\x1B[K");
     }
 }
 
@@ -183,9 +186,23 @@ fn rows(fd: i32, today: u64, text: &mut [u8]) -> Going
     going
 }
 
+// The two last lines, behind the rows: how long the whole text is.
+fn close(today: u64, going: Going, text: &mut [u8]) -> usize
+    requires { ⌜ SoFar today going (now text) ⌝ }
+    ensures { λ r. ⌜ Counts r (now (text .exit)) ⌝ }
+    ensures { λ r. ⌜ Summarises today (take r (now (text .exit))) ⌝ }
+{
+    let at = going.length;
+    let end = at + 64;
+    let tally = going.tally;
+    let done = prosianek::last(tally.good, tally.agreement, &mut text[at..end]);
+    at + done.length as usize
+}
+
 // The name of the folder with `.summary` behind it. One that does not fit fills the room, and is then too long for any file.
 fn put_name(path: &[u8], name: &mut [u8]) -> usize
     ensures { λ r. ⌜ Counts r (now (name .exit)) ⌝ }
+    ensures { λ r. ⌜ Put (now (path .entry) ++ ascii ".summary") (now (name .entry)) (now (name .exit)) r ⌝ }
 {
     let at = room::put_all(path, name);
     at + room::put_all(b".summary", &mut name[at..])
@@ -261,11 +278,7 @@ fn summarise(fd: i32, today: u64, path: &[u8])
         io::write_all(STDERR_FILENO, b"folder: the file could not be read again as it was\n");
         return;
     }
-    let at = going.length;
-    let end = at + 64;
-    let tally = going.tally;
-    let done = prosianek::last(tally.good, tally.agreement, &mut text[at..end]);
-    let n = at + done.length as usize;
+    let n = close(today, going, &mut text);
     publish(today, path, &text[..n]);
 }
 
@@ -296,6 +309,10 @@ fn main() {
         refuse(2);
         return;
     };
+    if path_length == 0 {
+        io::write_all(STDERR_FILENO, b"folder: no file is named, or by a name that is too long\n");
+        return;
+    }
     let fd = os::open_read(&path[..path_length]);
     if fd < 0 {
         os::fail(b"folder: the file cannot be opened");

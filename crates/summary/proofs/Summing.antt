@@ -102,7 +102,12 @@ counts today (e ∷ es) t h =
     let g = tallied-good (e .kind) p t (omega arith) in
     counts today es (afterOne today e t) (omega (arith, g, one-at-most p (t .good))) ∙ ap (λ (n : ℕ). n + conforming today es) g ∙ one-up p (t .good) (conforming today es)
 
--- ---- what the calls answer for an entry, and at the end
+-- and these are no more than there are
+pub few-conform : (today : ℕ) (es : List Entry) → conforming today es ≤ length es
+few-conform today [] = omega arith
+few-conform today (e ∷ es) = omega (arith, one-at-most (parsed (e .kind) today (e .bytes)) (conforming today es), few-conform today es)
+
+-- ---- what the calls answer for an entry
 
 module _ (today at : ℕ) (e : Entry) (c : List ℕ) (t : Tally) (date : isDate today ≡ true) (lends : length (e .bytes) ≤ largest → e .bytes ≡ c) where
   long-enough : lent (length (e .bytes)) (length c) ≡ true
