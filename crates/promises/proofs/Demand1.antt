@@ -1,4 +1,4 @@
--- Demand 1, of all nine calls. Assumes nothing.
+-- Demand 1, of all thirteen calls. Assumes nothing.
 use Prim.Native.Nat.{ℕ, _+_, _≤_}
 use mathlib.Core.Logic.{_⊎_, inl, inr}
 use mathlib.Core.Path.{_≡_, refl, sym, ap, _∙_}
@@ -31,6 +31,8 @@ use Rattle.writing.specs.Writing.{writeOutput}
 use Rattle.writing.specs.Calls.{Puts, refuses, writes}
 use Rattle.writing.proofs.Calls.{puts}
 use Rattle.views.specs.Views.{partOf, shown, viewOf, viewed}
+use Rattle.pieces.specs.Pieces.{over, ended}
+use Rattle.summary.specs.Rows.{lastOutput}
 use Rattle.report.specs.Calls.{reportOutput}
 use Rattle.report.proofs.Answers.{report-cases}
 use Rattle.prosianek.proofs.Checking.{answered}
@@ -38,6 +40,7 @@ use Rattle.prosianek.proofs.Decoding.{is-decoded, decoded-else}
 use Rattle.promises.specs.Demands.{Numbered, Clean, Demand1}
 use Rattle.promises.proofs.Listing.{lists-answer, points-answer, lists-clean, points-clean, no-counts}
 use Rattle.promises.proofs.Signing.{signer-answer}
+use Rattle.promises.proofs.Folding.{end-numbered, row-clean, last-clean}
 use Rattle.promises.proofs.Rooms.{answer, Fits, left-nothing, left-text, clean}
 
 -- ---- every number is of 01's table
@@ -123,10 +126,16 @@ demand-1 = record {
   signer-answers = signer-answer;
   decode-answers = λ s b. (decoded s, is-decoded s b refl, decoded-numbered s);
   encode-answers = λ n before. (_, _, record { leaves = record { answer = refl; room = refl } });
+  step-answers = λ s piece. (over s piece, record { goes-on = refl });
+  end-answers = λ today s. (ended today s, record { answer = refl }, end-numbered today s);
+  row-answers = λ today kind offset size c t before. (_, _, record { answers = record { answer = refl; room = refl } });
+  last-answers = λ good agreement before. (_, _, record { leaves = answer (lastOutput good agreement (length before)) before });
   check-clean = λ kind today c before after r h. check-clean (h .says);
   write-clean = λ kind today s before after r h. write-clean (h .puts);
   report-clean = λ kind today c before after r h. clean (reportOutput kind today c (length before)) before (report-fits kind today c (length before)) (h .leaves);
   encode-clean = λ n before after number h. encode-clean n before after number (h .leaves);
+  row-clean = row-clean;
+  last-clean = last-clean;
   lists-clean = λ today c before after r h. (lists-clean (h .fills), no-counts (h .fills .says));
   points-clean = λ today c before after r h. (points-clean (h .fills), no-counts (h .fills .says));
   decode-clean = λ s r d z. let e = decoded-else s d z in (ap (λ (x : Decoded). x .number) e, ap (λ (x : Decoded). x .numbers) e);

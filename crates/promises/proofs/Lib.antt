@@ -1,6 +1,7 @@
 pub mod Rooms
 pub mod Listing
 pub mod Signing
+pub mod Folding
 pub mod Demand1
 pub mod Demand2
 pub mod Demand3

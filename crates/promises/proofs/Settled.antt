@@ -15,8 +15,13 @@ use Rattle.writing.proofs.Calls.{leaves}
 use Rattle.prosianek.proofs.Checking.{only}
 use Rattle.prosianek.proofs.Decoding.{decoded-once}
 use Rattle.capi.specs.Calls.{numbersOf}
+use Rattle.capi.specs.Folder.{stateOf}
 use Rattle.points.specs.declared.Listed.{Listed}
 use Rattle.promises.specs.Demands.{Settled, SettledForC}
+use Rattle.laws.specs.Room.{filled}
+use Rattle.pieces.specs.declared.State.{State}
+use Rattle.summary.specs.Rows.{rowOf, rowedOf, lineOf}
+use Rattle.summary.specs.declared.Rowed.{Rowed}
 use Rattle.signer.specs.Signer.{Signed}
 use Rattle.signer.proofs.Once.{says-once}
 use Rattle.promises.proofs.Listing.{lists-once, points-once}
@@ -45,6 +50,14 @@ settled = record {
     a .leaves .answer ∙ rw h (sym (b .leaves .answer)),
     a .leaves .room ∙ rw h (sym (b .leaves .room)),
   );
+  one-step = λ s piece r₁ r₂ a b. a .goes-on ∙ sym (b .goes-on);
+  one-end = λ today s n₁ n₂ a b. a .answer ∙ sym (b .answer);
+  one-row = λ today kind offset size c t before₁ before₂ after₁ after₂ r₁ r₂ h a b.
+      (
+        a .answers .answer ∙ ap (λ (n : ℕ). rowedOf t (rowOf today kind offset size c t n)) h ∙ sym (b .answers .answer),
+        a .answers .room ∙ ap (λ (n : ℕ). filled (lineOf (rowOf today kind offset size c t n)) n) h ∙ sym (b .answers .room),
+      );
+  one-last = λ good agreement before₁ before₂ after₁ after₂ r₁ r₂ h a b. settled-output _ before₁ before₂ h (a .leaves) (rw h (b .leaves));
 }
 
 -- ---- the functions for C
@@ -60,6 +73,14 @@ entriesOf n = n .agency ∷ n .system ∷ n .credential ∷ n .series ∷ n .iss
 nine-of : (l m : List ℕ) → length l ≡ 9 → length m ≡ 9 → numbersOf l ≡ numbersOf m → l ≡ m
 unfolding entriesOf
 nine-of l m h k e = by-entries 9 l h ∙ ap entriesOf e ∙ sym (by-entries 9 m k)
+
+-- and three
+threeOf : State → List ℕ
+threeOf s = s .phase ∷ s .value ∷ s .left ∷ []
+
+three-of : (l m : List ℕ) → length l ≡ 3 → length m ≡ 3 → stateOf l ≡ stateOf m → l ≡ m
+unfolding threeOf
+three-of l m h k e = by-entries 3 l h ∙ ap threeOf e ∙ sym (by-entries 3 m k)
 
 pub settled-for-c : SettledForC
 settled-for-c = record {
@@ -113,4 +134,21 @@ settled-for-c = record {
       (ap (λ (d : Decoded). d .number) e, nine-of nine₁ nine₂ (x .nine) (y .nine) (ap (λ (d : Decoded). d .numbers) e));
   one-encode = λ nine before₁ before₂ after₁ after₂ n₁ n₂ h a b.
       settled .one-encode (numbersOf nine) before₁ before₂ after₁ after₂ n₁ n₂ h (a .answers) (b .answers);
+  one-step = λ before piece after₁ after₂ a b. three-of after₁ after₂ (a .three) (b .three) (a .answers .goes-on ∙ sym (b .answers .goes-on));
+  one-end = λ today state n₁ n₂ a b. a .answers .answer ∙ sym (b .answers .answer);
+  one-row = λ today kind offset size c good agreement fascn before₁ before₂ after₁ after₂ g₁ g₂ a₁ a₂ f₁ f₂ n₁ n₂ l₁ l₂ h a b.
+      let (e, f) = settled .one-row today kind offset size c _ before₁ before₂ after₁ after₂ _ _ h (a .answers) (b .answers) in (
+        ap (λ (r : Rowed). r .number) e,
+        ap (λ (r : Rowed). r .length) e,
+        ap (λ (r : Rowed). r .tally .good) e,
+        ap (λ (r : Rowed). r .tally .agreement) e,
+        ap (λ (r : Rowed). r .tally .fascn) e,
+        f,
+      );
+  one-last = λ good agreement before₁ before₂ after₁ after₂ n₁ n₂ l₁ l₂ h a b.
+      let (e, f) = settled .one-last good agreement before₁ before₂ after₁ after₂ _ _ h (a .answers) (b .answers) in (
+        a .number-is ∙ ap (λ (d : Done). d .number) e ∙ sym (b .number-is),
+        a .size-is ∙ ap (λ (d : Done). d .length) e ∙ sym (b .size-is),
+        f,
+      );
 }

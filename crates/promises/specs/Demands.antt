@@ -1,11 +1,11 @@
--- The user's three demands, in the user's order and words, as statements about the nine calls of the door (`Checks`, `Writes`, `Views`, `Reports`, `Lists`,
--- `Points`, `Signers`, `Decodes`, `Encodes`: what a call answers and leaves; `Judges`: the verdict that a check gives). Each is a record of statements, and
+-- The user's three demands, in the user's order and words, as statements about the thirteen calls of the door (`Checks`, `Writes`, `Views`, `Reports`, `Lists`,
+-- `Points`, `Signers`, `Decodes`, `Encodes`, `FolderSteps`, `FolderEnds`, `Rows`, `Lasts`: what a call answers and leaves; `Judges`: the verdict that a check gives). Each is a record of statements, and
 -- `proofs/` has the theorem for each: `demand-1`, `demand-2`, `demand-3`; `at-the-desk`, the third of what the desk program prints; `no-long-report`,
--- `as-a-list` and `whose-certificate`, what 2026-12, 2026-10 and 2026-11 ask for; `settled` and `settled-for-c`, that no answer is left open.
+-- `as-a-list`, `whose-certificate` and `the-orders-folder`, what 2026-12, 2026-10, 2026-11 and 2026-14 ask for; `settled` and `settled-for-c`, that no answer is left open.
 --
 -- A room is `before` when it is lent and `after` when it comes back. `Bytes c` says that each number of c is below 256, as it is in every slice that a
 -- program can give.
-use Prim.Native.Nat.{ℕ, _+_, _*_, _-_, _≤_, _<_}
+use Prim.Native.Nat.{ℕ, suc, _+_, _*_, _-_, _^_, _≤_, _<_}
 use mathlib.Core.Logic.{_⊎_, _↔_}
 use mathlib.Core.Path.{_≡_}
 use mathlib.Core.Bool.{Bool}
@@ -14,7 +14,7 @@ use mathlib.Core.List.{List, [], _∷_, _++_, map}
 use lib.ListN.{length, take, drop, getD, replicate}
 use Rattle.laws.specs.Bytes.{Bytes}
 use Rattle.laws.specs.Room.{zeros, filled}
-use Rattle.laws.specs.Layout.{part}
+use Rattle.laws.specs.Layout.{joined, part}
 use Rattle.dates.specs.Date.{IsDate, IsTextDate}
 use Rattle.fascn.specs.Fascn.{IsFascnOf, IsFascn}
 use Rattle.fascn.specs.Calls.{noNumbers}
@@ -23,7 +23,7 @@ use Rattle.fascn.specs.declared.Decoded.{Decoded}
 use Rattle.verdicts.specs.Verdicts.{numberOf, noTag, tagNumber, outright, found}
 use Rattle.verdicts.specs.Output.{refusal, doneOf}
 use Rattle.verdicts.specs.declared.Fault.{Fault}
-use Rattle.verdicts.specs.declared.Fault.the-variants.{UnknownKind, NoDate, SmallRoom, LargeContainer, NoElement, BadFascn, FascnDiffer, BiometricBlock, ChuidBlock, NeitherHolds}
+use Rattle.verdicts.specs.declared.Fault.the-variants.{UnknownKind, NoDate, SmallRoom, LargeContainer, NoElement, BadFascn, FascnDiffer, BiometricBlock, ChuidBlock, NeitherHolds, TornFolder}
 use Rattle.verdicts.specs.declared.Tag.{Tag}
 use Rattle.verdicts.specs.declared.Tag.the-variants.{NoTag, Of}
 use Rattle.verdicts.specs.declared.Finding.{Finding}
@@ -50,9 +50,17 @@ use Rattle.der.specs.Der.{Item, derBytes}
 use Rattle.blocks.specs.Block as block
 use Rattle.blocks.specs.Block.{SignedData, IsBlock}
 use Rattle.signer.specs.Signer.{Chuid, IsBiometric, Biometric, NoBlock, HoldsNone, Holding}
-use Rattle.prosianek.specs.Calls.{Judges, Checks, Writes, Views, Reports, Lists, Points, Signers, Decodes, Encodes}
+use Rattle.pieces.specs.Folder.{Entry, AreEntries, IsFolder}
+use Rattle.pieces.specs.Pieces.{first}
+use Rattle.pieces.specs.declared.State.{State}
+use Rattle.summary.specs.Rows.{rowText, rowRoom, start, fails}
+use Rattle.summary.specs.Summary.{firstOffset, nextOffset, rowFor, afterOne, conforming, Carries, Agree, IsSummary}
+use Rattle.summary.specs.declared.Tally.{Tally}
+use Rattle.summary.specs.declared.Rowed.{Rowed}
+use Rattle.prosianek.specs.Calls.{Judges, Checks, Writes, Views, Reports, Lists, Points, Signers, Decodes, Encodes, FolderSteps, FolderEnds, Rows, Lasts}
 use Rattle.printout.specs.Printout.{refusedText, printed, kindText, Asks}
 use Rattle.capi.specs.Calls.{CChecks, CWrites, CViews, CReports, CLists, CSigners, CDecodes, CEncodes}
+use Rattle.capi.specs.Folder.{CFolderSteps, CFolderEnds, CRows, CLasts}
 
 -- ---- Demand 1. "Every byte string, date and room size gets an answer, and every call ends. Bad input is refused by number, without the caller having
 -- checked it. A refusal leaves the lent output room all zeros; a success leaves zeros after the last byte of output."
@@ -96,6 +104,10 @@ pub record Demand1 : Type 0 where
       → (number place tag which : ℕ) × (part : ℕ × ℕ) × (bytes : List ℕ) × Signers kind today chuid biometric at own-at number place tag which part bytes × Numbered number
   pub decode-answers : (s : List ℕ) → Bytes s → (r : Decoded) × Decodes s r × Numbered (r .number)
   pub encode-answers : (n : Numbers) (before : List ℕ) → (after : List ℕ) × (number : ℕ) × Encodes n before after number
+  pub step-answers : (s : State) (piece : List ℕ) → (r : State) × FolderSteps s piece r
+  pub end-answers : (today : ℕ) (s : State) → (number : ℕ) × FolderEnds today s number × Numbered number
+  pub row-answers : (today kind offset size : ℕ) (c : List ℕ) (t : Tally) (before : List ℕ) → (after : List ℕ) × (r : Rowed) × Rows today kind offset size c t before after r
+  pub last-answers : (good agreement : ℕ) (before : List ℕ) → (after : List ℕ) × (r : Done) × Lasts good agreement before after r
   -- and it leaves a lent room clean: a check refuses by its verdict, and by the number beside it
   pub check-clean : (kind today : ℕ) (c before after : List ℕ) (r : Checked) → Checks kind today c before after r
       → Clean before after (r .verdict .number) (r .length) × Clean before after (r .room) (r .length)
@@ -103,6 +115,10 @@ pub record Demand1 : Type 0 where
   pub report-clean : (kind today : ℕ) (c before after : List ℕ) (r : Done) → Reports kind today c before after r → Clean before after (r .number) (r .length)
   pub encode-clean : (n : Numbers) (before after : List ℕ) (number : ℕ) → Encodes n before after number
       → ((number ≡ 0) × Clean before after number 25) ⊎ ((number ≡ 0 → ⊥) × Clean before after number 0)
+  -- 2026-14: of a kind that is a byte, and of numbers that a program can give
+  pub row-clean : (today kind offset size : ℕ) (c : List ℕ) (t : Tally) (before after : List ℕ) (r : Rowed) → kind < 256 → offset < 2 ^ 64 → size < 2 ^ 64
+      → Rows today kind offset size c t before after r → Clean before after (r .number) (r .length)
+  pub last-clean : (good agreement : ℕ) (before after : List ℕ) (r : Done) → good < 2 ^ 64 → Lasts good agreement before after r → Clean before after (r .number) (r .length)
   -- 2026-10: "Entries past the last are all zero; a refusal leaves the whole list zero." "a refusal gives both counts as 0"
   pub lists-clean : (today : ℕ) (c : List ℕ) (before after : Five) (r : Listed) → Lists today c before after r
       → CleanEach before after (r .verdict .number) (r .first + r .second) × ((r .verdict .number ≡ 0 → ⊥) → (r .first ≡ 0) × (r .second ≡ 0))
@@ -414,6 +430,102 @@ pub record WhoseCertificate : Type 0 where
   pub one-call : (kind today : ℕ) (chuid biometric : List ℕ) (at own-at : ℕ × ℕ) (number place tag which : ℕ) (part : ℕ × ℕ) (bytes : List ℕ) → Bytes chuid → Bytes biometric
       → Signers kind today chuid biometric at own-at number place tag which part bytes → OneCall kind today chuid biometric at own-at number place tag which part bytes
 
+-- ---- 2026-14. "An order is a file of containers: a two-byte count, at most 256, then for each a kind byte, a four-byte length and the bytes, all big-endian,
+-- nothing after. Go through a recorded folder and write a summary beside it .. What is proved of a folder is stated of the list of kinds and containers that
+-- its bytes spell and of the lines that these calls give for that list .. Each row depends on today, its own kind, container and offset alone. The agreement
+-- line does look at personal digits, so demand 3 reads for a folder: replace personal values so that the rules are met and the agreement line stays, and the
+-- whole summary stays. Refusals: 32, folder cut short, bytes left over or count above 256, before any container; 2 for today comes first of all; 3 for a row's or
+-- the last lines' room under 64 bytes, before that container is looked at; broken rules and numbers 1 and 4 are rows".
+
+-- the pieces are gone over, one after the other, from a state to another
+abbrev pub GoesOver : State → List (List ℕ) → State → Type 0
+GoesOver s [] r = r ≡ s
+GoesOver s (p ∷ ps) r = (u : State) × FolderSteps s p u × GoesOver u ps r
+
+-- what is answered at the end of these bytes: 2, 32, or 0
+pub data Ends (today : ℕ) (s : List ℕ) (number : ℕ) : Type 0 where
+  no-date : (IsDate today → ⊥) → number ≡ numberOf NoDate → Ends today s number
+  torn : IsDate today → ((es : List Entry) → IsFolder s es → ⊥) → number ≡ numberOf TornFolder → Ends today s number
+  whole : IsDate today → (es : List Entry) → IsFolder s es → number ≡ 0 → Ends today s number
+
+-- what a row's call answers, with a room of so many bytes: 2, 3, 32 where not all of the container was lent, or 0; a refusal leaves the state as it was
+pub data RowInTurn (today size : ℕ) (c : List ℕ) (t : Tally) (room : ℕ) (r : Rowed) : Type 0 where
+  no-date : (IsDate today → ⊥) → r ≡ fails NoDate t → RowInTurn today size c t room r
+  small-room : IsDate today → room < 64 → r ≡ fails SmallRoom t → RowInTurn today size c t room r
+  cut-short : IsDate today → 64 ≤ room → size ≤ largest → (length c ≡ size → ⊥) → r ≡ fails TornFolder t → RowInTurn today size c t room r
+  written : IsDate today → 64 ≤ room → (size ≤ largest → length c ≡ size) → r .number ≡ 0 → RowInTurn today size c t room r
+
+-- the containers are lent one at a time, "one over 32,768 by its length alone", each with a room of at least 64 bytes: these are the lines of the rows, and the
+-- state goes from one to the next
+abbrev pub GoesThrough : ℕ → ℕ → Tally → List Entry → List ℕ → Tally → Type 0
+GoesThrough today at t [] lines u = (lines ≡ []) × (u ≡ t)
+GoesThrough today at t (e ∷ es) lines u =
+    (c : List ℕ) × (before : List ℕ) × (after : List ℕ) × (r : Rowed) × (more : List ℕ) × (length (e .bytes) ≤ largest → e .bytes ≡ c) × (rowRoom ≤ length before)
+    × Rows today (e .kind) at (length (e .bytes)) c t before after r × (lines ≡ take (r .length) after ++ more) × GoesThrough today (nextOffset at e) (r .tally) es more u
+
+-- "the lines that these calls give for that list": the rows, from the first container on, and the last lines
+pub record Gives (today : ℕ) (es : List Entry) (text : List ℕ) : Type 0 where
+  pub rows : List ℕ
+  pub tally : Tally
+  pub through : GoesThrough today firstOffset start es rows tally
+  pub before : List ℕ
+  pub after : List ℕ
+  pub done : Done
+  pub room : rowRoom ≤ length before
+  pub last : Lasts (tally .good) (tally .agreement) before after done
+  pub text-is : text ≡ rows ++ take (done .length) after
+
+-- a container that stands in the place of another: the same; or both conform, with the same shape in the same forms, whatever their values; or both are refused
+-- alike and are equally long
+pub data Replaces (today : ℕ) (e f : Entry) : Type 0 where
+  same : e ≡ f → Replaces today e f
+  personal : e .kind ≡ f .kind → (vs ws : Values) (h : Conforms (e .kind) today vs (e .bytes)) (k : Conforms (e .kind) today ws (f .bytes))
+      → h .forms ≡ k .forms → shape vs ≡ shape ws → Replaces today e f
+  refused : e .kind ≡ f .kind → length (e .bytes) ≡ length (f .bytes) → (v : Verdict) → Judges (e .kind) today (e .bytes) v → Judges (e .kind) today (f .bytes) v
+      → (v .number ≡ 0 → ⊥) → Replaces today e f
+
+abbrev pub ReplacesEach : ℕ → List Entry → List Entry → Type 0
+ReplacesEach today [] [] = Unit {0}
+ReplacesEach today [] (f ∷ fs) = ⊥
+ReplacesEach today (e ∷ es) [] = ⊥
+ReplacesEach today (e ∷ es) (f ∷ fs) = Replaces today e f × ReplacesEach today es fs
+
+pub record TheOrdersFolder : Type 0 where
+  -- bytes spell at most one list
+  pub only-list : (s : List ℕ) (es fs : List Entry) → IsFolder s es → IsFolder s fs → es ≡ fs
+  -- it does not matter how they are cut into pieces
+  pub any-pieces : (ps qs : List (List ℕ)) (r u : State) → joined ps ≡ joined qs → GoesOver first ps r → GoesOver first qs u → r ≡ u
+  -- 32 exactly when there is no such list, and 2 first of all
+  pub ends : (today : ℕ) (ps : List (List ℕ)) (r : State) (number : ℕ) → Bytes (joined ps) → GoesOver first ps r → FolderEnds today r number → Ends today (joined ps) number
+  -- "2 for today comes first of all; 3 for a row's .. room under 64 bytes, before that container is looked at"
+  pub row-in-turn : (today kind offset size : ℕ) (c : List ℕ) (t : Tally) (before after : List ℕ) (r : Rowed) → Rows today kind offset size c t before after r
+      → RowInTurn today size c t (length before) r
+  -- the row of a container: its kind, its offset, its length and the verdict, "broken rules and numbers 1 and 4 are rows"; and the state after it
+  pub row-line : (today at : ℕ) (e : Entry) (c : List ℕ) (t : Tally) (before after : List ℕ) (r : Rowed) → IsDate today → rowRoom ≤ length before
+      → (length (e .bytes) ≤ largest → e .bytes ≡ c) → Rows today (e .kind) at (length (e .bytes)) c t before after r
+      → (r .number ≡ 0) × (take (r .length) after ≡ rowFor today at e) × (r .tally ≡ afterOne today e t)
+  pub row-verdict : (today at : ℕ) (e : Entry) (v : Verdict) → Judges (e .kind) today (e .bytes) v → rowFor today at e ≡ rowText (e .kind) at (length (e .bytes)) v
+  -- "Each row depends on today, its own kind, container and offset alone": not on the state, nor on what the room held, nor on what is lent for one that is too long
+  pub row-alone : (today at : ℕ) (e : Entry) (c d : List ℕ) (t u : Tally) (before₁ before₂ after₁ after₂ : List ℕ) (r₁ r₂ : Rowed) → IsDate today
+      → rowRoom ≤ length before₁ → rowRoom ≤ length before₂ → (length (e .bytes) ≤ largest → e .bytes ≡ c) → (length (e .bytes) ≤ largest → e .bytes ≡ d)
+      → Rows today (e .kind) at (length (e .bytes)) c t before₁ after₁ r₁ → Rows today (e .kind) at (length (e .bytes)) d u before₂ after₂ r₂
+      → take (r₁ .length) after₁ ≡ take (r₂ .length) after₂
+  -- "the lines that these calls give for that list" are the summary, and there is only one
+  pub summary : (today : ℕ) (s : List ℕ) (es : List Entry) (text : List ℕ) → IsDate today → IsFolder s es → Gives today es text → IsSummary today es text
+  pub only-summary : (today : ℕ) (es : List Entry) (a b : List ℕ) → IsSummary today es a → IsSummary today es b → a ≡ b
+  pub summed-up : (today : ℕ) (s : List ℕ) (es : List Entry) → IsDate today → IsFolder s es → (text : List ℕ) × Gives today es text
+  -- "the number that conform": one more for each that does
+  pub good-more : (today : ℕ) (e : Entry) (es : List Entry) → Bytes (e .bytes) → (vs : Values) → Conforms (e .kind) today vs (e .bytes)
+      → conforming today (e ∷ es) ≡ suc (conforming today es)
+  pub good-else : (today : ℕ) (e : Entry) (es : List Entry) → Bytes (e .bytes) → ((vs : Values) → Conforms (e .kind) today vs (e .bytes) → ⊥)
+      → conforming today (e ∷ es) ≡ conforming today es
+  -- what is compared is a FASC-N, and a container has only one
+  pub carries-fascn : (today : ℕ) (e : Entry) (f : List ℕ) → Bytes (e .bytes) → Carries today e f → IsFascn f
+  pub only-fascn : (today : ℕ) (e : Entry) (f g : List ℕ) → Bytes (e .bytes) → Carries today e f → Carries today e g → f ≡ g
+  -- "replace personal values so that the rules are met and the agreement line stays, and the whole summary stays"
+  pub nothing-personal : (today : ℕ) (es fs : List Entry) → AreEntries es → AreEntries fs → ReplacesEach today es fs → (Agree today es ↔ Agree today fs)
+      → (a b : List ℕ) → IsSummary today es a → IsSummary today fs b → a ≡ b
+
 -- ---- "For each public call the contract determines number, place, returned part and each byte of lent room, on every input and every refusal. Any two
 -- results that satisfy it are shown equal." The tag is a part of the answer as the place is. Rooms of one length may have held anything before. (A returned part has a block, an offset and bytes; the ghost
 -- name of its reference is no value, and is left open.)
@@ -438,6 +550,12 @@ pub record Settled : Type 0 where
   pub one-decode : (s : List ℕ) (r₁ r₂ : Decoded) → Decodes s r₁ → Decodes s r₂ → r₁ ≡ r₂
   pub one-encode : (n : Numbers) (before₁ before₂ after₁ after₂ : List ℕ) (k₁ k₂ : ℕ) → length before₁ ≡ length before₂
       → Encodes n before₁ after₁ k₁ → Encodes n before₂ after₂ k₂ → (k₁ ≡ k₂) × (after₁ ≡ after₂)
+  pub one-step : (s : State) (piece : List ℕ) (r₁ r₂ : State) → FolderSteps s piece r₁ → FolderSteps s piece r₂ → r₁ ≡ r₂
+  pub one-end : (today : ℕ) (s : State) (n₁ n₂ : ℕ) → FolderEnds today s n₁ → FolderEnds today s n₂ → n₁ ≡ n₂
+  pub one-row : (today kind offset size : ℕ) (c : List ℕ) (t : Tally) (before₁ before₂ after₁ after₂ : List ℕ) (r₁ r₂ : Rowed) → length before₁ ≡ length before₂
+      → Rows today kind offset size c t before₁ after₁ r₁ → Rows today kind offset size c t before₂ after₂ r₂ → (r₁ ≡ r₂) × (after₁ ≡ after₂)
+  pub one-last : (good agreement : ℕ) (before₁ before₂ after₁ after₂ : List ℕ) (r₁ r₂ : Done) → length before₁ ≡ length before₂
+      → Lasts good agreement before₁ after₁ r₁ → Lasts good agreement before₂ after₂ r₂ → (r₁ ≡ r₂) × (after₁ ≡ after₂)
 
 -- the same of the functions for C, which answer a number and store the others
 pub record SettledForC : Type 0 where
@@ -460,3 +578,11 @@ pub record SettledForC : Type 0 where
   pub one-decode : (s : List ℕ) (n₁ n₂ : ℕ) (nine₁ nine₂ : List ℕ) → CDecodes s n₁ nine₁ → CDecodes s n₂ nine₂ → (n₁ ≡ n₂) × (nine₁ ≡ nine₂)
   pub one-encode : (nine before₁ before₂ after₁ after₂ : List ℕ) (n₁ n₂ : ℕ) → length before₁ ≡ length before₂
       → CEncodes nine before₁ after₁ n₁ → CEncodes nine before₂ after₂ n₂ → (n₁ ≡ n₂) × (after₁ ≡ after₂)
+  pub one-step : (before piece after₁ after₂ : List ℕ) → CFolderSteps before piece after₁ → CFolderSteps before piece after₂ → after₁ ≡ after₂
+  pub one-end : (today : ℕ) (state : List ℕ) (n₁ n₂ : ℕ) → CFolderEnds today state n₁ → CFolderEnds today state n₂ → n₁ ≡ n₂
+  pub one-row : (today kind offset size : ℕ) (c : List ℕ) (good agreement : ℕ) (fascn before₁ before₂ after₁ after₂ : List ℕ) (g₁ g₂ a₁ a₂ : ℕ) (f₁ f₂ : List ℕ) (n₁ n₂ l₁ l₂ : ℕ)
+      → length before₁ ≡ length before₂
+      → CRows today kind offset size c good agreement fascn before₁ after₁ g₁ a₁ f₁ n₁ l₁ → CRows today kind offset size c good agreement fascn before₂ after₂ g₂ a₂ f₂ n₂ l₂
+      → (n₁ ≡ n₂) × (l₁ ≡ l₂) × (g₁ ≡ g₂) × (a₁ ≡ a₂) × (f₁ ≡ f₂) × (after₁ ≡ after₂)
+  pub one-last : (good agreement : ℕ) (before₁ before₂ after₁ after₂ : List ℕ) (n₁ n₂ l₁ l₂ : ℕ) → length before₁ ≡ length before₂
+      → CLasts good agreement before₁ after₁ n₁ l₁ → CLasts good agreement before₂ after₂ n₂ l₂ → (n₁ ≡ n₂) × (l₁ ≡ l₂) × (after₁ ≡ after₂)
