@@ -1,8 +1,8 @@
 -- The rows of the table hold: each is tested by computation, and what the tests say is what the rules say. Assumes nothing.
 use Prim.Native.Nat.{ℕ}
-use mathlib.Core.Logic.{_↔_}
+use mathlib.Core.Logic.{_↔_, inl, inr}
 use mathlib.Core.Path.{_≡_, refl, sym, ap, ap₂, _∙_}
-use mathlib.Core.Bool.{Bool, true, false, not, _&&_, true≢false}
+use mathlib.Core.Bool.{Bool, true, false, cond, not, _&&_, true≢false}
 use mathlib.Core.Option.{Option, none, some}
 use mathlib.Core.List.{List, [], _∷_, _++_}
 use native.Mathlib.Omega.{arith}
@@ -10,11 +10,12 @@ use lib.Count.{ones}
 use lib.Dec.{leb, ltb, eqb}
 use lib.ListN.{length}
 use lib.Seq.{take-all}
-use borrow.Author.Tests.{eqb-true, eq-eqb, ltb-true, leb-true, le-leb}
+use borrow.Author.Tests.{eqb-true, eqb-false, eq-eqb, ltb-true, ltb-false, leb-true, le-leb, not-true}
 use Rattle.laws.specs.Bytes.{Bytes}
 use Rattle.laws.specs.Digits.{digits}
 use Rattle.laws.specs.Tests.{each, same}
-use Rattle.laws.proofs.Cases.{and-true, all-true, same-eq}
+use Rattle.laws.specs.Room.{filled}
+use Rattle.laws.proofs.Cases.{which, and-true, all-true, same-eq}
 use Rattle.fascn.specs.Fascn.{exclusive, values, checked, characters, encoded, inRange}
 use Rattle.fascn.specs.Reading.{valuesOf, framed, decoded, isFascn}
 use Rattle.fascn.proofs.Framing.{range-exact}
@@ -38,7 +39,9 @@ use Rattle.iris.specs.Judged.{extent as irisExtent, recordHead as irisHead, isI
 use Rattle.heads.specs.Length.{readLength as readDer}
 use Rattle.heads.specs.Head.{headOf}
 use Rattle.der.specs.Walk.{items, judged as walked, certificate}
-use Rattle.verdicts.specs.Verdicts.{numberOf, found, verdictOf}
+use Rattle.verdicts.specs.Verdicts.{numberOf, outright, found, verdictOf}
+use Rattle.verdicts.specs.declared.Fault.the-variants.{SmallRoom, TornFolder}
+use Rattle.container.specs.Container.{largest}
 use Rattle.verdicts.specs.declared.Fault.{Fault}
 use Rattle.verdicts.specs.declared.Outcome.the-variants.{Broken}
 use Rattle.verdicts.specs.declared.Verdict.{Verdict}
@@ -67,11 +70,19 @@ use Rattle.points.proofs.Once.{says-once}
 use Rattle.views.specs.Views.{viewed}
 use Rattle.blocks.proofs.Computed.{blockOf}
 use Rattle.signer.proofs.Computed.{signedOf, says}
+use Rattle.pieces.specs.Folder.{Entry, AreEntries}
+use Rattle.pieces.specs.Pieces.{first as begun, one, over}
+use Rattle.pieces.proofs.Exact as folder
+use Rattle.summary.specs.Rows.{rowText, lastText, alike, start, seen, tallied, byLength, Row, refuses, writes as written, rowRoom, rowOf, rowedOf, lineOf, lastOutput}
+use Rattle.summary.specs.Summary.{firstOffset, rowsFrom, after, conforming}
+use Rattle.summary.specs.declared.Tally.{Tally}
+use Rattle.summary.proofs.Laws.{last-0, last-3, whole-long}
+use Rattle.summary.proofs.Agreeing.{agrees}
 use Rattle.prosianek.proofs.Checking.{answer, output, only}
 use Rattle.promises.specs.Demands.{sizes}
 use Rattle.promises.proofs.Listing.{Told, computed, computed-says}
 use Rattle.promises.proofs.Signing.{as-said}
-use Rattle.promises.specs.Examples.{Example, fascn-of, no-fascn, spells, no-length, date, no-date, kept, late, printed-date, no-printed-date, conforms, breaks, checks, writes, reports, fills-lists, fills-points, signs, today, Holds, All, examples}
+use Rattle.promises.specs.Examples.{Example, fascn-of, no-fascn, spells, no-length, date, no-date, kept, late, printed-date, no-printed-date, conforms, breaks, checks, writes, reports, fills-lists, fills-points, signs, folder-of, no-folder, sums-up, rows-as, lasts-as, today, Holds, All, examples}
 
 -- ---- each row as a test
 
@@ -117,6 +128,26 @@ sameTold t number place tag first second =
 holdsEach : List ℕ → ℕ → Bool
 holdsEach rooms n = each (λ room. leb n room) rooms
 
+-- the entries of a folder
+areEntries : List Entry → Bool
+areEntries [] = true
+areEntries (e ∷ es) = ltb (e .kind) 256 && ltb (length (e .bytes)) 4294967296 && areBytes (e .bytes) && areEntries es
+
+-- the same state of a folder, and the same row
+sameTally : Tally → Tally → Bool
+sameTally t u = eqb (t .good) (u .good) && eqb (t .agreement) (u .agreement) && same (t .fascn) (u .fascn)
+
+sameRow : Row → Tally → ℕ → List ℕ → Tally → Bool
+sameRow (refuses f) t number line u = eqb (numberOf f) number && same [] line && sameTally t u
+sameRow (written l v) t number line u = eqb 0 number && same l line && sameTally v u
+
+-- a row computed, without the bytes of a container that is too long
+quickRow : ℕ → ℕ → ℕ → List ℕ → Tally → ℕ → Row
+quickRow kind offset size c t room =
+    cond (ltb room rowRoom) (refuses SmallRoom)
+    (cond (ltb largest size) (written (rowText kind offset size (verdictOf (Broken (outright (byLength kind))))) t)
+    (cond (eqb (length c) size) (written (rowText kind offset size (verdict kind today c)) (tallied kind (parsed kind today c) t)) (refuses TornFolder)))
+
 tested : Example → Bool
 tested (fascn-of s n) = inRange n && same s (encoded n)
 tested (no-fascn s) = areBytes s && not (isFascn s)
@@ -148,6 +179,12 @@ tested (signs kind c d number place tag which offset bytes) =
     let a = signedOf kind today c d in
     areBytes c && areBytes d && eqb (a .verdict .number) number && eqb (a .verdict .place) place && sameTag (a .verdict .tag) tag && eqb (a .which) which && eqb (a .offset) offset
     && same (a .bytes) bytes
+
+tested (folder-of s) = areBytes s && eqb (over begun s .phase) 8
+tested (no-folder s) = areBytes s && not (eqb (over begun s .phase) 8)
+tested (sums-up es lines) = areEntries es && same lines (rowsFrom today firstOffset es ++ lastText (conforming today es) (alike (after today es start .agreement)))
+tested (rows-as kind offset size c t room number line u) = sameRow (quickRow kind offset size c t room) t number line u
+tested (lasts-as good agreement room number lines) = sameOutput (lastOutput good agreement room) number lines
 
 allTested : List Example → Bool
 allTested [] = true
@@ -348,6 +385,77 @@ signs-so kind c d number place tag which offset bytes t at own-at n p u w part l
     λ i. record { verdict = record { number = x i; place = y i; tag = z i }; which = v i; offset = o i; bytes = s i } in
     as-said b e h _ (rw q at (says kind today c d b e))
 
+are-entries : (es : List Entry) → areEntries es ≡ true → AreEntries es
+unfolding areEntries
+are-entries [] t = tt
+are-entries (e ∷ es) t =
+    let f = all-true (ltb (e .kind) 256 ∷ ltb (length (e .bytes)) 4294967296 ∷ areBytes (e .bytes) ∷ areEntries es ∷ []) t in
+    (record { kind-is = ltb-true _ _ (f 0); length-is = ltb-true _ _ (f 1); bytes-are = are-bytes (e .bytes) (f 2) }, are-entries es (f 3))
+
+same-tally : (t u : Tally) → sameTally t u ≡ true → t ≡ u
+unfolding sameTally
+same-tally t u h =
+    let f = all-true (eqb (t .good) (u .good) ∷ eqb (t .agreement) (u .agreement) ∷ same (t .fascn) (u .fascn) ∷ []) h in
+    let g = eqb-true _ _ (f 0) in
+    let a = eqb-true _ _ (f 1) in
+    let n = same-eq _ _ (f 2) in
+    λ i. record { good = g i; agreement = a i; fascn = n i }
+
+same-row : (x : Row) (t : Tally) (number : ℕ) (line : List ℕ) (u : Tally) → sameRow x t number line u ≡ true
+    → (rowedOf t x ≡ record { number = number; length = length line; tally = u }) × (lineOf x ≡ line)
+unfolding sameRow
+same-row (refuses f) t number line u h =
+    let d = all-true (eqb (numberOf f) number ∷ same [] line ∷ sameTally t u ∷ []) h in
+    let n = eqb-true _ _ (d 0) in
+    let l = same-eq [] line (d 1) in
+    let v = same-tally t u (d 2) in
+    ((λ i. record { number = n i; length = length (l i); tally = v i }), l)
+same-row (written m w) t number line u h =
+    let d = all-true (eqb 0 number ∷ same m line ∷ sameTally w u ∷ []) h in
+    let n = eqb-true _ _ (d 0) in
+    let l = same-eq m line (d 1) in
+    let v = same-tally w u (d 2) in
+    ((λ i. record { number = n i; length = length (l i); tally = v i }), l)
+
+-- the last lines' answer has no place and no tag
+plain-last : (good agreement room : ℕ) → let d = doneOf (lastOutput good agreement room) in (d .place ≡ 0) × (d .tag ≡ NoTag)
+plain-last good agreement room =
+    elim (which (ltb room rowRoom)) [
+      | inl l ↦ rw (last-3 good agreement room (ltb-true _ _ l)) (refl, refl)
+      | inr l ↦ rw (last-0 good agreement room (ltb-false _ _ l)) (refl, refl)
+    ]
+
+lasts-so : (good agreement room number : ℕ) (lines : List ℕ) → tested (lasts-as good agreement room number lines) ≡ true → Holds (lasts-as good agreement room number lines)
+unfolding tested
+lasts-so good agreement room number lines t before left r q h =
+    let o = lastOutput good agreement room in
+    let (n, l, b) = same-output o number lines t in
+    let (p, g) = plain-last good agreement room in
+    let w : Leaves o before left r = rw q at (h .leaves) in
+    (w .answer ∙ (λ i. record { number = n i; place = p i; tag = g i; length = l i }), w .room ∙ rw (q, b))
+
+is-today : isDate today ≡ true
+unfolding isDate exists daysIn
+is-today = refl
+
+quick-row : (kind offset size : ℕ) (c : List ℕ) (t : Tally) (room : ℕ) → rowOf today kind offset size c t room ≡ quickRow kind offset size c t room
+unfolding rowOf quickRow
+quick-row kind offset size c t room =
+    elim (which (ltb room rowRoom)) [
+      | inl r ↦ rw (is-today, r)
+      | inr r ↦
+          elim (which (ltb largest size)) [
+            | inl l ↦
+                let (v, p) = whole-long kind today size c is-today (ltb-true _ _ l) in
+                rw (is-today, r, l) (ap₂ (λ (w : Verdict) (q : Parsed (List ℕ)). written (rowText kind offset size w) (tallied kind q t)) (rw l at v) (rw l at p))
+            | inr l ↦
+                elim (which (eqb (length c) size)) [
+                  | inl e ↦ rw (is-today, r, l, e)
+                  | inr e ↦ rw (is-today, r, l, e)
+                ]
+          ]
+    ]
+
 so : (e : Example) → tested e ≡ true → Holds e
 unfolding tested isNone
 so (fascn-of s n) t = let c = and-true (inRange n) (same s (encoded n)) t in record { in-range = range-exact n .0 (c .0); written = same-eq s (encoded n) (c .1) }
@@ -376,6 +484,19 @@ so (reports kind c room number bytes) t = reports-so kind c room number bytes t
 so (fills-lists c rooms number place tag first second) t = lists-so c rooms number place tag first second t
 so (fills-points c room number place tag first second) t = points-so c room number place tag first second t
 so (signs kind c d number place tag which offset bytes) t = signs-so kind c d number place tag which offset bytes t
+so (folder-of s) t = let c = and-true (areBytes s) (eqb (over begun s .phase) 8) t in folder.exact s (are-bytes s (c .0)) .0 (eqb-true _ 8 (c .1))
+so (no-folder s) t = λ es f.
+    let c = and-true (areBytes s) (not (eqb (over begun s .phase) 8)) t in
+    eqb-false _ 8 (not-true _ (c .1)) (folder.exact s (are-bytes s (c .0)) .1 (es, f))
+so (sums-up es lines) t =
+    let c = and-true (areEntries es) _ t in
+    let a = are-entries es (c .0) in
+    (a, record { agree = alike (after today es start .agreement); agree-is = agrees today es a; text-is = same-eq lines _ (c .1) })
+so (rows-as kind offset size c t room number line u) h = λ before left r l k.
+    let q = quick-row kind offset size c t room in
+    let (a, z) = same-row (quickRow kind offset size c t room) t number line u h in
+    (k .answers .answer ∙ rw l (ap (rowedOf t) q ∙ a), k .answers .room ∙ rw l (ap (λ (v : List ℕ). filled v room) (ap lineOf q ∙ z)))
+so (lasts-as good agreement room number lines) t = lasts-so good agreement room number lines t
 
 all-so : (es : List Example) → allTested es ≡ true → All es
 unfolding allTested
@@ -383,7 +504,7 @@ all-so [] t = tt
 all-so (e ∷ es) t = let c = and-true (tested e) (allTested es) t in (so e (c .0), all-so es (c .1))
 
 all-tested : allTested examples ≡ true
-unfolding allTested tested areBytes isNone isLength sameTag sameOutput samePoint samePoints sameTold holdsEach pointsOf examples ones digits exclusive values checked characters encoded valuesOf framed decoded isFascn lengthBytes readLength daysIn exists isDate dateOf twoDigits monthNumber isPrintedDate isMoment isUuid isPolicy isText ended isCreator pointHolds pointsHold viewHead fills whole extent recordHead isMinutiae informed blockExtent faceHead isFacial dateHolds marksHold shapeHolds irisExtent irisHead isIris readDer headOf items walked certificate ruleOf element located parsed outcome sheetOf writeOutput fixed decimal hex2 hexTag cardPart elementLines elementCount openPart reportText reportOutput viewed blockOf signedOf
+unfolding allTested tested areBytes isNone isLength sameTag sameOutput samePoint samePoints sameTold holdsEach pointsOf examples ones digits exclusive values checked characters encoded valuesOf framed decoded isFascn lengthBytes readLength daysIn exists isDate dateOf twoDigits monthNumber isPrintedDate isMoment isUuid isPolicy isText ended isCreator pointHolds pointsHold viewHead fills whole extent recordHead isMinutiae informed blockExtent faceHead isFacial dateHolds marksHold shapeHolds irisExtent irisHead isIris readDer headOf items walked certificate ruleOf element located parsed outcome sheetOf writeOutput fixed decimal hex2 hexTag cardPart elementLines elementCount openPart reportText reportOutput viewed blockOf signedOf areEntries sameTally sameRow one over rowText lastText seen quickRow lastOutput
 all-tested = refl
 
 pub examples-hold : All examples

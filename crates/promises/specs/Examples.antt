@@ -25,7 +25,12 @@ use Rattle.points.specs.Calls.{entries, Five, listsOf}
 use Rattle.points.specs.declared.Point.{Point}
 use Rattle.points.specs.declared.Listed.{Listed}
 use Rattle.signer.specs.Signer.{Answers}
-use Rattle.prosianek.specs.Calls.{Checks, Writes, Reports, Lists, Points, Signers}
+use Rattle.pieces.specs.Folder.{Entry, AreEntries, IsFolder}
+use Rattle.summary.specs.Rows.{tally, start}
+use Rattle.summary.specs.Summary.{IsSummary}
+use Rattle.summary.specs.declared.Tally.{Tally}
+use Rattle.summary.specs.declared.Rowed.{Rowed}
+use Rattle.prosianek.specs.Calls.{Checks, Writes, Reports, Lists, Points, Signers, Rows, Lasts}
 use Rattle.promises.specs.Demands.{sizes}
 
 -- ---- what a row of the table says
@@ -49,6 +54,11 @@ pub data Example : Type 0 where
   fills-lists : List ℕ → List ℕ → ℕ → ℕ → Tag → List Point → List Point → Example
   fills-points : List ℕ → ℕ → ℕ → ℕ → Tag → List Point → List Point → Example
   signs : ℕ → List ℕ → List ℕ → ℕ → ℕ → Tag → ℕ → ℕ → List ℕ → Example
+  folder-of : List ℕ → Example
+  no-folder : List ℕ → Example
+  sums-up : List Entry → List ℕ → Example
+  rows-as : ℕ → ℕ → ℕ → List ℕ → Tally → ℕ → ℕ → List ℕ → Tally → Example
+  lasts-as : ℕ → ℕ → ℕ → ℕ → List ℕ → Example
 
 -- "With today 20260301"
 abbrev pub today : ℕ
@@ -86,6 +96,17 @@ Holds (fills-points c room number place tag first second) = (before after : List
 -- offset of the one that they lie in
 Holds (signs kind c d number place tag which offset bytes) = (at own-at : ℕ × ℕ) (n p t w : ℕ) (part : ℕ × ℕ) (b : List ℕ) → Signers kind today c d at own-at n p t w part b
     → Answers (record { verdict = record { number = number; place = place; tag = tag }; which = which; offset = offset; bytes = bytes }) at own-at n p t w part b
+
+Holds (folder-of s) = (es : List Entry) × IsFolder s es  -- these bytes are a folder
+Holds (no-folder s) = (es : List Entry) → IsFolder s es → ⊥
+Holds (sums-up es text) = AreEntries es × IsSummary today es text  -- these bytes are the summary of these entries
+-- a row of a container of this kind, whose first byte stands at this offset and which has so many bytes, for which c is lent, in a room of so many bytes, whatever
+-- they were, answers this number, leaves this line and zeros, and brings the state on so
+Holds (rows-as kind offset size c t room number line u) = (before after : List ℕ) (r : Rowed) → length before ≡ room → Rows today kind offset size c t before after r
+    → (r ≡ record { number = number; length = length line; tally = u }) × (after ≡ filled line room)
+-- the last lines in such a room
+Holds (lasts-as good agreement room number lines) = (before after : List ℕ) (r : Done) → length before ≡ room → Lasts good agreement before after r
+    → (r ≡ record { number = number; place = 0; tag = NoTag; length = length lines }) × (after ≡ filled lines room)
 
 abbrev pub All : List Example → Type 0
 All [] = Unit {0}
@@ -127,6 +148,13 @@ element tag value = tag ∷ length value ∷ value
 
 abbrev chuidOf : List ℕ → List ℕ
 chuidOf elements = 0x53 ∷ length elements ∷ elements
+
+-- 2026-14: a CHUID as case R, with this FASC-N, 61 bytes; an entry of a folder
+abbrev chuidFor : List ℕ → List ℕ
+chuidFor fascn = chuidOf (element 0x30 fascn ++ (element 0x34 uuid ++ (element 0x35 expiry ++ (element 0x3E [] ++ element 0xFE []))))
+
+abbrev entry : ℕ → List ℕ → Entry
+entry kind c = record { kind = kind; bytes = c }
 
 -- 2026-01: the bytes before the 3E of case R, 55 of them; and a CHUID with 3E of n bytes AA, its outer length and that of 3E spelt by these bytes; its sheet
 abbrev upTo3E : List ℕ
@@ -762,4 +790,46 @@ examples =
     ∷ signs 6 chuidC8 (face 0x64) 21 3 (Of 0xBC) 2 0 []
     ∷ signs 6 (chuidOf (element 0x30 (p1 0xEB) ++ element 0x34 (replicate 16 0))) (face 0x64) 18 29 (Of 0x34) 1 0 []
     ∷ signs 2 [] chuidC8 1 0 NoTag 0 0 []
+    -- 2026-14. No entry, one, and 256, each without a byte; 257; no count, half a count
+    ∷ folder-of (0 ∷ 0 ∷ [])
+    ∷ folder-of (0 ∷ 1 ∷ 2 ∷ 0 ∷ 0 ∷ 0 ∷ 0 ∷ [])
+    ∷ folder-of (1 ∷ 0 ∷ replicate 1280 0)
+    ∷ no-folder (1 ∷ 1 ∷ replicate 1285 0)
+    ∷ no-folder []
+    ∷ no-folder (0 ∷ [])
+    -- a byte left over; an entry that is missing, or cut within its length, or within its bytes; a length beyond all files
+    ∷ no-folder (0 ∷ 0 ∷ 0 ∷ [])
+    ∷ no-folder (0 ∷ 1 ∷ [])
+    ∷ no-folder (0 ∷ 1 ∷ 2 ∷ 0 ∷ 0 ∷ 0 ∷ [])
+    ∷ no-folder (0 ∷ 1 ∷ 2 ∷ 0 ∷ 0 ∷ 0 ∷ 1 ∷ [])
+    ∷ no-folder (0 ∷ 1 ∷ 2 ∷ 0xFF ∷ 0xFF ∷ 0xFF ∷ 0xFF ∷ replicate 61 0)
+    -- a CHUID and FINGERS of one card, and a kind without FASC-N; two CHUIDs that differ, and one that is refused, which does not count
+    ∷ sums-up [] (ascii "good 0\nagree yes\n")
+    ∷ sums-up (entry 2 (chuidFor (p1 0xEB)) ∷ entry 6 (fingersWith (p1 0xEB) (ascii "SIG")) ∷ entry 3 (discovery 0x40) ∷ [])
+        (ascii "2 7 61 0 0 --\n6 73 137 0 0 --\n3 215 20 0 0 --\ngood 3\nagree yes\n")
+    ∷ sums-up (entry 2 (chuidFor (p1 0xEB)) ∷ entry 2 (chuidFor p8) ∷ []) (ascii "2 7 61 0 0 --\n2 73 61 0 0 --\ngood 2\nagree no\n")
+    ∷ sums-up (entry 2 (chuidFor (p1 0xEB)) ∷ entry 6 (fingersWith p8 (ascii "SIG")) ∷ []) (ascii "2 7 61 0 0 --\n6 73 137 0 0 --\ngood 2\nagree no\n")
+    ∷ sums-up (entry 2 (chuidFor (p1 0xEB)) ∷ entry 2 (chuidOf (element 0x30 p8 ++ element 0x34 (replicate 16 0))) ∷ [])
+        (ascii "2 7 61 0 0 --\n2 73 47 18 29 34\ngood 1\nagree yes\n")
+    -- kinds that are none, and containers without a byte
+    ∷ sums-up (entry 0 [] ∷ entry 50 (1 ∷ []) ∷ entry 13 [] ∷ entry 12 [] ∷ []) (ascii "0 7 0 1 0 --\n50 12 1 1 0 --\n13 18 0 1 0 --\n12 23 0 10 0 --\ngood 0\nagree yes\n")
+    -- 64 bytes are enough, 63 are not; 3 before the container is looked at; 32 where it is not as long as it should be
+    ∷ rows-as 2 7 61 (chuidFor (p1 0xEB)) start 64 0 (ascii "2 7 61 0 0 --\n") (tally 1 1 (p1 0xEB))
+    ∷ rows-as 2 7 61 (chuidFor (p1 0xEB)) start 63 3 [] start
+    ∷ rows-as 2 7 62 (chuidFor (p1 0xEB)) start 63 3 [] start
+    ∷ rows-as 2 7 62 (chuidFor (p1 0xEB)) start 64 32 [] start
+    -- judged by its length alone; an unknown kind wins over that; 32,768 bytes are to be lent
+    ∷ rows-as 2 7 32769 [] start 64 0 (ascii "2 7 32769 4 0 --\n") start
+    ∷ rows-as 99 7 32769 [] start 64 0 (ascii "99 7 32769 1 0 --\n") start
+    ∷ rows-as 2 7 32768 [] start 64 32 [] start
+    -- the state that other rows left: the same FASC-N, another, one that makes no difference any more; the largest count; a tag of four digits
+    ∷ rows-as 2 7 61 (chuidFor (p1 0xEB)) (tally 4 1 (p1 0xEB)) 64 0 (ascii "2 7 61 0 0 --\n") (tally 5 1 (p1 0xEB))
+    ∷ rows-as 2 7 61 (chuidFor p8) (tally 4 1 (p1 0xEB)) 64 0 (ascii "2 7 61 0 0 --\n") (tally 5 2 (p1 0xEB))
+    ∷ rows-as 2 7 61 (chuidFor (p1 0xEB)) (tally 4 2 (p1 0xEB)) 64 0 (ascii "2 7 61 0 0 --\n") (tally 5 2 (p1 0xEB))
+    ∷ rows-as 3 7 20 (discovery 0x40) (tally 18446744073709551615 0 (replicate 25 0)) 64 0 (ascii "3 7 20 0 0 --\n") (tally 18446744073709551615 0 (replicate 25 0))
+    ∷ rows-as 3 65555 20 (discovery 0x60) start 64 0 (ascii "3 65555 20 20 15 5F2F\n") start
+    -- the last lines
+    ∷ lasts-as 3 1 64 0 (ascii "good 3\nagree yes\n")
+    ∷ lasts-as 3 2 64 0 (ascii "good 3\nagree no\n")
+    ∷ lasts-as 3 1 63 3 []
     ∷ []
