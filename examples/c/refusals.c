@@ -1,7 +1,8 @@
 // The refusals, across the border: each call answers its number, its place and its tag, and leaves the room or the lists that
 // it was lent all zeros, whatever stood there before. The signer, which names a container as well, is also tried where it finds
-// a certificate. tests/linking runs it. It prints a line for each answer that is not as it should be, and then the count of
-// calls; the exit status is 0 only if all are right.
+// a certificate, and the calls of a folder where they are done: what they are lent as a state, a refusal leaves as it was.
+// tests/linking runs it. It prints a line for each answer that is not as it should be, and then the count of calls; the exit
+// status is 0 only if all are right.
 #include <inttypes.h>
 #include <stdio.h>
 #include <string.h>
@@ -9,6 +10,10 @@
 #include "prosianek.h"
 
 enum { TODAY = 20260301, STALE = 0xAA };
+
+// What is no date.
+enum { NO_DATES = 4 };
+static const uint64_t no_dates[NO_DATES] = {0, 20260229, 100000101, UINT64_MAX};
 
 // A card holder identifier that conforms: the desk's case R, samples/chuid.bin.
 static const uint8_t chuid[61] = {
@@ -659,6 +664,253 @@ static void signers(uint64_t kind, const uint8_t *c, size_t size) {
     blocks(p);
 }
 
+// A piece more of a folder. This call answers nothing.
+static void piece(uint64_t state[3], const uint8_t *bytes, size_t size) {
+    prosianek_folder_step(state, bytes, size);
+    calls++;
+}
+
+// The end of a folder whose pieces led to this state: under a date, and under what is none, which comes first.
+static void ends(const char *what, const uint64_t state[3], uint64_t expected) {
+    const uint64_t before[3] = {state[0], state[1], state[2]};
+    answers(what, prosianek_folder_end(TODAY, state), expected);
+    for (int i = 0; i < NO_DATES; i++) answers(what, prosianek_folder_end(no_dates[i], state), PROSIANEK_NO_DATE);
+    if (memcmp(before, state, sizeof before) != 0) wrong(what, "the end changed the state");
+}
+
+// A folder that is gone over at once, byte by byte, and in pieces of seven with an empty one behind each.
+static void folder(const char *what, const uint8_t *bytes, size_t size, uint64_t expected) {
+    const size_t sizes[] = {size, 1, 7};
+    for (int i = 0; i < 3; i++) {
+        // a number behind the state, so that one that is written there shows
+        uint64_t state[4] = {0, 0, 0, STALE};
+        for (size_t at = 0; at < size; at += sizes[i]) {
+            piece(state, bytes + at, size - at < sizes[i] ? size - at : sizes[i]);
+            if (sizes[i] == 7) piece(state, bytes, 0);
+        }
+        ends(what, state, expected);
+        if (state[3] != STALE) wrong(what, "a number behind the state was written");
+    }
+}
+
+// What is a folder and what is none. Nothing of a container is looked at, and no kind.
+static void folders(void) {
+    // a count of 256 and 257 containers of kind 0, all empty; a CHUID, and a byte behind it
+    enum { MOST_EMPTY = 2 + 5 * PROSIANEK_MOST_CONTAINERS };
+    static uint8_t empty_ones[MOST_EMPTY + 5] = {1, 0}, order[2 + 5 + sizeof chuid + 1] = {0, 1, PROSIANEK_CHUID};
+    const size_t whole = sizeof order - 1;
+    const uint64_t torn = PROSIANEK_TORN_FOLDER, mad[3] = {UINT64_MAX, UINT64_MAX, UINT64_MAX};
+    uint64_t state[3] = {0, 0, 0};
+
+    folder("a folder of no bytes", empty_ones, 0, torn);
+    ends("a folder of no pieces", state, torn);
+    piece(state, empty_ones, 0);
+    ends("a folder of an empty piece", state, torn);
+    folder("a folder of one byte", empty_ones, 1, torn);
+    folder("a folder of a count alone", empty_ones, 2, torn);
+    folder("256 empty containers", empty_ones, MOST_EMPTY, PROSIANEK_DONE);
+    folder("256 empty containers, cut", empty_ones, MOST_EMPTY - 1, torn);
+    folder("256 empty containers, a byte left over", empty_ones, MOST_EMPTY + 1, torn);
+    empty_ones[1] = 1;
+    folder("a count of 257 alone", empty_ones, 2, torn);
+    folder("a count of 257 and 256 containers", empty_ones, MOST_EMPTY, torn);
+    folder("a count of 257 and as many containers", empty_ones, MOST_EMPTY + 5, torn);
+    empty_ones[0] = empty_ones[1] = 0;
+    folder("a count of 0", empty_ones, 2, PROSIANEK_DONE);
+    folder("a count of 0, a byte left over", empty_ones, 3, torn);
+
+    order[6] = sizeof chuid;
+    memcpy(order + 7, chuid, sizeof chuid);
+    folder("a CHUID", order, whole, PROSIANEK_DONE);
+    for (size_t size = 0; size < whole; size++) folder("a CHUID, cut", order, size, torn);
+    folder("a CHUID, a byte left over", order, sizeof order, torn);
+    order[1] = 2;
+    folder("a count of 2 and one CHUID", order, whole, torn);
+    order[1] = 1;
+    order[3] = order[4] = order[5] = order[6] = 0xFF;
+    folder("a length of FFFFFFFF", order, whole, torn);
+
+    // a state that no folder leads to
+    ends("a state of large numbers", mad, torn);
+    memcpy(state, mad, sizeof state);
+    piece(state, order, whole);
+    ends("a state of large numbers, a folder behind", state, torn);
+}
+
+// What a row is lent besides its room: the state of the summary.
+struct tally {
+    uint64_t good, agreement;
+    uint8_t fascn[PROSIANEK_FASCN_BYTES];
+};
+
+// A state with other bytes than zeros in it.
+static struct tally some_tally(void) {
+    struct tally t = {STALE, 1, {0}};
+    memset(t.fascn, STALE, sizeof t.fascn);
+    return t;
+}
+
+static int same_tally(struct tally one, struct tally other) {
+    return one.good == other.good && one.agreement == other.agreement && memcmp(one.fascn, other.fascn, sizeof one.fascn) == 0;
+}
+
+// A container of a folder: its kind, the offset of its first byte, its length as the folder has it, and what is lent of it.
+struct entry {
+    uint8_t kind;
+    uint64_t offset, size;
+    const uint8_t *bytes;
+    size_t lent;
+};
+
+static uint64_t call_row(uint64_t today, struct entry e, struct tally *t, size_t lent) {
+    stale();
+    return prosianek_row(today, e.kind, e.offset, e.size, e.bytes, e.lent, &t->good, &t->agreement, t->fascn, room, lent,
+                         &length);
+}
+
+// After a call that was lent so many bytes: this text, zeros, and nothing touched behind.
+static void leaves_text(const char *what, const char *text, size_t lent) {
+    const size_t used = strlen(text);
+    if (length != used || memcmp(room, text, used) != 0) wrong(what, "another text, or another length");
+    leaves(what, used, lent);
+}
+
+// A row that is refused: the state is as it was.
+static void no_row(const char *what, uint64_t today, struct entry e, size_t lent, uint64_t expected) {
+    struct tally t = some_tally();
+    answers(what, call_row(today, e, &t, lent), expected);
+    leaves_text(what, "", lent);
+    if (!same_tally(t, some_tally())) wrong(what, "the state is another one");
+}
+
+// A row in just enough room, and in more; the state that it is lent, and the one that it leaves.
+static void has_row(const char *what, struct entry e, const char *text, struct tally before, struct tally after) {
+    for (size_t lent = PROSIANEK_ROW_ROOM; lent <= 100; lent += 36) {
+        struct tally t = before;
+        answers(what, call_row(TODAY, e, &t, lent), PROSIANEK_DONE);
+        leaves_text(what, text, lent);
+        if (!same_tally(t, after)) wrong(what, "the state is another one");
+    }
+}
+
+// A row about a container that does not conform: the state is as it was.
+static void bad_row(const char *what, struct entry e, const char *text) { has_row(what, e, text, some_tally(), some_tally()); }
+
+// A row is refused, in this order, under what is no date, in a room under 64 bytes, and where nothing is lent of a container; of
+// one that is told by its length alone nothing need be lent.
+static void refused_rows(struct entry e) {
+    static const size_t rooms[] = {0, PROSIANEK_ROW_ROOM - 1, PROSIANEK_ROW_ROOM};
+    struct entry cut = e;
+    cut.lent = 0;
+    for (int k = 0; k < 3; k++)
+        for (int i = 0; i < NO_DATES; i++) {
+            no_row("row, bad date", no_dates[i], e, rooms[k], PROSIANEK_NO_DATE);
+            no_row("row, bad date, nothing lent", no_dates[i], cut, rooms[k], PROSIANEK_NO_DATE);
+        }
+    for (int k = 0; k < 2; k++) {
+        no_row("row, a small room", TODAY, e, rooms[k], PROSIANEK_SMALL_ROOM);
+        no_row("row, a small room, nothing lent", TODAY, cut, rooms[k], PROSIANEK_SMALL_ROOM);
+    }
+    if (e.size <= PROSIANEK_LARGEST_CONTAINER) no_row("row, nothing lent", TODAY, cut, rooms[2], PROSIANEK_TORN_FOLDER);
+}
+
+// Up to 32,768 bytes all of the container is lent, and nothing else; above that it does not matter.
+static void lent_rows(void) {
+    const uint64_t largest = PROSIANEK_LARGEST_CONTAINER, torn = PROSIANEK_TORN_FOLDER;
+    no_row("row, a byte less", TODAY, (struct entry){PROSIANEK_CHUID, 7, 61, chuid, 60}, 64, torn);
+    no_row("row, a byte more", TODAY, (struct entry){PROSIANEK_CHUID, 7, 60, chuid, 61}, 64, torn);
+    no_row("row, a byte for none", TODAY, (struct entry){PROSIANEK_CHUID, 7, 0, chuid, 1}, 64, torn);
+    no_row("row, a byte less, bad kind", TODAY, (struct entry){13, 7, 61, chuid, 60}, 64, torn);
+    no_row("row, 32,767 for 32,768", TODAY, (struct entry){PROSIANEK_CHUID, 7, largest, too_large, largest - 1}, 64, torn);
+    no_row("row, 32,769 for 32,768", TODAY, (struct entry){PROSIANEK_CHUID, 7, largest, too_large, largest + 1}, 64, torn);
+    bad_row("row, no bytes", (struct entry){PROSIANEK_CHUID, 7, 0, chuid, 0}, "2 7 0 10 0 --\n");
+    bad_row("row, 32,768 bytes", (struct entry){PROSIANEK_CHUID, 7, largest, too_large, largest}, "2 7 32768 10 0 --\n");
+    for (size_t lent = 0; lent <= largest + 1; lent += largest + 1) {
+        const struct entry large = {PROSIANEK_CHUID, 7, largest + 1, too_large, lent};
+        const struct entry no_kind = {13, 7, largest + 1, too_large, lent};
+        bad_row("row, 32,769 bytes", large, "2 7 32769 4 0 --\n");
+        bad_row("row, 32,769 bytes, bad kind", no_kind, "13 7 32769 1 0 --\n");
+        refused_rows(large);
+    }
+    bad_row("row, a CHUID for 32,769 bytes", (struct entry){PROSIANEK_CHUID, 7, largest + 1, chuid, 61}, "2 7 32769 4 0 --\n");
+    bad_row("row, the largest numbers", (struct entry){255, UINT64_MAX, UINT64_MAX, chuid, 0},
+            "255 18446744073709551615 18446744073709551615 1 0 --\n");
+    bad_row("row, kind 0", (struct entry){0, 7, 61, chuid, 61}, "0 7 61 1 0 --\n");
+    bad_row("row, kind 13", (struct entry){13, 7, 61, chuid, 61}, "13 7 61 1 0 --\n");
+    bad_row("row, a CHUID for fingers", (struct entry){PROSIANEK_FINGERS, 7, 61, chuid, 61}, "6 7 61 13 2 30\n");
+}
+
+// What the row of a container that conforms leaves of a state: where no FASC-N was seen before, where the same was, where another
+// was, and where it is known that they differ; and where the count cannot grow.
+static void tallied_rows(void) {
+    const struct entry carriers[] = {
+        {PROSIANEK_CHUID, 7, 61, chuid, 61},
+        {PROSIANEK_FINGERS, 7, 155, fingers, 155},
+        {PROSIANEK_FACE, 7, 143, face, 143},
+        {PROSIANEK_IRIS, 7, 165, iris, 165},
+    };
+    static const char *const texts[] = {"2 7 61 0 0 --\n", "6 7 155 0 0 --\n", "7 7 143 0 0 --\n", "12 7 165 0 0 --\n"};
+    const struct entry plain = {PROSIANEK_DISCOVERY, 7, 20, discovery, 20};
+    const struct tally none = {0, 0, {0}}, some = some_tally();
+    struct tally one = {1, 1, {0}}, after, full;
+    memcpy(one.fascn, chuid + FASCN_AT, sizeof one.fascn);
+    for (int i = 0; i < 4; i++) {
+        has_row("row, the first FASC-N", carriers[i], texts[i], none, one);
+        after = one;
+        after.good = 2;
+        has_row("row, the same FASC-N", carriers[i], texts[i], one, after);
+        after = some;
+        after.good++;
+        after.agreement = 2;
+        has_row("row, another FASC-N", carriers[i], texts[i], some, after);
+        // any number above 1 says that they differ
+        full = some;
+        full.good = full.agreement = UINT64_MAX;
+        has_row("row, a full count", carriers[i], texts[i], full, full);
+        full.agreement = 2;
+        after = full;
+        full.good--;
+        has_row("row, a count that is nearly full", carriers[i], texts[i], full, after);
+        refused_rows(carriers[i]);
+    }
+    after = some;
+    after.good++;
+    has_row("row, no FASC-N", plain, "3 7 20 0 0 --\n", some, after);
+    after = none;
+    after.good = 1;
+    has_row("row, no FASC-N yet", plain, "3 7 20 0 0 --\n", none, after);
+
+    // the FASC-N of a container that breaks a rule is not looked at
+    uint8_t broken[sizeof chuid];
+    memcpy(broken, chuid, sizeof chuid);
+    broken[sizeof chuid - 1] = 1;
+    bad_row("row, a broken CHUID", (struct entry){PROSIANEK_CHUID, 7, 61, broken, 61}, "2 7 61 12 59 FE\n");
+}
+
+static void no_last(const char *what, uint64_t good, uint64_t agreement, size_t lent) {
+    stale();
+    answers(what, prosianek_last(good, agreement, room, lent, &length), PROSIANEK_SMALL_ROOM);
+    leaves_text(what, "", lent);
+}
+
+static void has_last(const char *what, uint64_t good, uint64_t agreement, const char *text) {
+    for (size_t lent = PROSIANEK_ROW_ROOM; lent <= 100; lent += 36) {
+        stale();
+        answers(what, prosianek_last(good, agreement, room, lent, &length), PROSIANEK_DONE);
+        leaves_text(what, text, lent);
+    }
+}
+
+static void last_lines(void) {
+    no_last("last, no room", 3, 1, 0);
+    no_last("last, a room of 63", 3, 1, PROSIANEK_ROW_ROOM - 1);
+    no_last("last, a room of 63, large numbers", UINT64_MAX, UINT64_MAX, PROSIANEK_ROW_ROOM - 1);
+    has_last("last, nothing seen", 0, 0, "good 0\nagree yes\n");
+    has_last("last, all alike", 256, 1, "good 256\nagree yes\n");
+    has_last("last, two differ", 2, 2, "good 2\nagree no\n");
+    has_last("last, large numbers", UINT64_MAX, UINT64_MAX, "good 18446744073709551615\nagree no\n");
+}
+
 static void decode(const char *what, const uint8_t *bytes, size_t size) {
     stale();
     answers(what, prosianek_fascn_decode(bytes, size, numbers), PROSIANEK_BAD_FASCN);
@@ -691,14 +943,13 @@ int main(void) {
         report("report, bad kind", kinds[i], TODAY, chuid, sizeof chuid, 512, PROSIANEK_UNKNOWN_KIND);
     }
 
-    static const uint64_t dates[] = {0, 20260229, 100000101, UINT64_MAX};
-    for (int i = 0; i < 4; i++) {
-        refuses("check, bad date", PROSIANEK_CHUID, dates[i], chuid, sizeof chuid, PROSIANEK_NO_DATE);
-        write("write, bad date", PROSIANEK_CHUID, dates[i], sheet, SHEET_BYTES, 100, PROSIANEK_NO_DATE);
-        view("view, bad date", PROSIANEK_CHUID, dates[i], chuid, sizeof chuid, 0x30, PROSIANEK_NO_DATE);
-        report("report, bad date", PROSIANEK_CHUID, dates[i], chuid, sizeof chuid, 512, PROSIANEK_NO_DATE);
-        no_lists("lists, bad date", dates[i], fingers, sizeof fingers, enough, PROSIANEK_NO_DATE, 0, PROSIANEK_NO_TAG);
-        no_lists("lists, bad date, empty", dates[i], fingers, sizeof fingers, empty, PROSIANEK_NO_DATE, 0, PROSIANEK_NO_TAG);
+    for (int i = 0; i < NO_DATES; i++) {
+        refuses("check, bad date", PROSIANEK_CHUID, no_dates[i], chuid, sizeof chuid, PROSIANEK_NO_DATE);
+        write("write, bad date", PROSIANEK_CHUID, no_dates[i], sheet, SHEET_BYTES, 100, PROSIANEK_NO_DATE);
+        view("view, bad date", PROSIANEK_CHUID, no_dates[i], chuid, sizeof chuid, 0x30, PROSIANEK_NO_DATE);
+        report("report, bad date", PROSIANEK_CHUID, no_dates[i], chuid, sizeof chuid, 512, PROSIANEK_NO_DATE);
+        no_lists("lists, bad date", no_dates[i], fingers, sizeof fingers, enough, PROSIANEK_NO_DATE, 0, PROSIANEK_NO_TAG);
+        no_lists("lists, bad date, empty", no_dates[i], fingers, sizeof fingers, empty, PROSIANEK_NO_DATE, 0, PROSIANEK_NO_TAG);
     }
 
     // Rooms one byte too small, and of no bytes at all: the pointer is not null there either. A check's 3 stands beside its 0.
@@ -742,6 +993,10 @@ int main(void) {
     signers(PROSIANEK_FACE, face, sizeof face);
     signers(PROSIANEK_IRIS, iris, sizeof iris);
     for (uint64_t kind = PROSIANEK_PIVAUTH; kind <= PROSIANEK_CARDAUTH; kind++) certificates(kind);
+    folders();
+    lent_rows();
+    tallied_rows();
+    last_lines();
 
     // Each of the nine numbers with one digit too many; that comes before the room.
     static const uint64_t limits[9] = {10000, 10000, 1000000, 10, 10, 10000000000, 10, 10000, 10};

@@ -22,7 +22,7 @@ use Rattle.pieces.specs.Folder.{Entry, IsEntry}
 use Rattle.verdicts.specs.Output.{Output, text as text-of, bytesOf, doneOf, Leaves}
 use Rattle.verdicts.specs.declared.Done.{Done}
 use Rattle.container.specs.Container.{largest}
-use Rattle.summary.specs.Rows.{start, whole, rowRoom, Answers, lastText, alike, lastOutput}
+use Rattle.summary.specs.Rows.{start, whole, rowRoom, RowAnswers, lastText, alike, lastOutput}
 use Rattle.summary.specs.Summary.{firstOffset, rowFor, rowsFrom, afterOne, conforming, IsSummary}
 use Rattle.summary.specs.declared.Rowed.{Rowed}
 use Rattle.summary.specs.declared.Tally.{Tally}
@@ -81,7 +81,7 @@ written text row at k h =
 
 module _ {today : ℕ} {g : Going} {text : List ℕ} (date : IsDate today) (s : SoFar today g text) (few : g .count < 256) where
   pub appended : {kind size : ℕ} {c : List ℕ} → kind < 256 → size < 4294967296 → Bytes c → length c ≡ lentOf size → {left : List ℕ} {r : Rowed} (k : ℕ) → k ≡ rowRoom
-      → Answers today kind (g .offset) size c (g .tally) (midOf (g .length) k text) left r
+      → RowAnswers today kind (g .offset) size c (g .tally) (midOf (g .length) k text) left r
       → Goes today g (record { unread = false; count = g .count + 1; offset = g .offset + size + 5; length = g .length + r .length; tally = r .tally }) (putMid (g .length) k text left)
   appended {kind} {size} {c} small fits b l {left} {r} k room a =
       record { so-far = λ _. so-far; on = λ _. refl; size-is = same-size ∙ s .size-is }
@@ -133,7 +133,7 @@ module _ {today : ℕ} {g : Going} {text : List ℕ} (date : IsDate today) (s : 
 
   -- it fits
   pub length-fits : {kind size : ℕ} {c : List ℕ} → kind < 256 → size < 4294967296 → Bytes c → length c ≡ lentOf size → {left : List ℕ} {r : Rowed} (k : ℕ) → k ≡ rowRoom
-      → Answers today kind (g .offset) size c (g .tally) (midOf (g .length) k text) left r → g .length + r .length ≤ textSize
+      → RowAnswers today kind (g .offset) size c (g .tally) (midOf (g .length) k text) left r → g .length + r .length ≤ textSize
   length-fits small fits b l k room a = let t = appended small fits b l k room a .so-far refl in omega (arith, t .inside, t .few)
 
 -- ---- where the file could not be read

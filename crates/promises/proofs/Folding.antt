@@ -45,7 +45,7 @@ use Rattle.pieces.specs.Pieces.{first, over, overAll, ended}
 use Rattle.pieces.specs.declared.State.{State}
 use Rattle.pieces.proofs.Laws.{in-pieces}
 use Rattle.pieces.proofs.Exact as folder
-use Rattle.summary.specs.Rows.{carried, start, tallied, lent, whole, Row, refuses, writes, rowRoom, rowOf, rowText, fails, rowedOf, lineOf, lastText, lastOutput, Answers}
+use Rattle.summary.specs.Rows.{carried, start, tallied, lent, whole, Row, refuses, writes, rowRoom, rowOf, rowText, fails, rowedOf, lineOf, lastText, lastOutput, RowAnswers}
 use Rattle.summary.specs.Rows as rows
 use Rattle.summary.specs.Summary.{firstOffset, nextOffset, rowFor, rowsFrom, afterOne, after, oneIf, conforming, Carries, Agree, IsSummary}
 use Rattle.summary.specs.declared.Tally.{Tally}

@@ -24,7 +24,7 @@ use Rattle.signer.specs.Signer.{Signs}
 use Rattle.report.specs.Calls.{reportOutput}
 use Rattle.pieces.specs.Pieces.{over, ended}
 use Rattle.pieces.specs.declared.State.{State}
-use Rattle.summary.specs.Rows.{Answers as RowAnswers, lastOutput}
+use Rattle.summary.specs.Rows.{RowAnswers, lastOutput}
 use Rattle.summary.specs.declared.Tally.{Tally}
 use Rattle.summary.specs.declared.Rowed.{Rowed}
 

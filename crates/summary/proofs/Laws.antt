@@ -29,7 +29,7 @@ use Rattle.container.specs.Reading.{Parsed, values, fault, parsed, located, out
 use Rattle.container.proofs.Sizes.{Measured, measured}
 use Rattle.card.specs.Card.{verdictText}
 use Rattle.card.proofs.Bound.{verdict-most}
-use Rattle.summary.specs.Rows.{rowText, lastText, Row, refuses, writes, rowRoom, rowOf, fails, rowedOf, lineOf, Answers, whole, lent, byLength, tally, seen, tallied, Judged, alike, lastOutput}
+use Rattle.summary.specs.Rows.{rowText, lastText, Row, refuses, writes, rowRoom, rowOf, fails, rowedOf, lineOf, RowAnswers, whole, lent, byLength, tally, seen, tallied, Judged, alike, lastOutput}
 use Rattle.summary.specs.declared.Tally.{Tally}
 use Rattle.summary.specs.declared.Rowed.{Rowed}
 
@@ -164,11 +164,11 @@ module _ (today kind offset size : ℕ) (c : List ℕ) (t : Tally) (room : ℕ) 
 
 -- what is answered and left, by the row
 pub refused-row : {today kind offset size : ℕ} {c : List ℕ} {t : Tally} (d : List ℕ) {e : List ℕ} {r : Rowed} {f : Fault} → rowOf today kind offset size c t (length d) ≡ refuses f
-    → e ≡ zeros (length d) → r ≡ fails f t → Answers today kind offset size c t d e r
+    → e ≡ zeros (length d) → r ≡ fails f t → RowAnswers today kind offset size c t d e r
 refused-row {t = t} d h z e = record { answer = e ∙ ap (rowedOf t) (sym h); room = z ∙ filled-none (length d) ∙ ap (λ (x : Row). filled (lineOf x) (length d)) (sym h) }
 
 pub written-row : {today kind offset size : ℕ} {c : List ℕ} {t : Tally} (d : List ℕ) {z e line : List ℕ} {u : Tally} {n : ℕ} → rowOf today kind offset size c t (length d) ≡ writes line u
-    → z ≡ zeros (length d) → length line ≤ length d → Put line z e n → Answers today kind offset size c t d e (record { number = 0; length = n; tally = u })
+    → z ≡ zeros (length d) → length line ≤ length d → Put line z e n → RowAnswers today kind offset size c t d e (record { number = 0; length = n; tally = u })
 written-row {t = t} d {u = u} h z l p =
     let (f, n) = put-filled z l p in
     record {

@@ -18,7 +18,7 @@ use Rattle.verdicts.specs.Verdicts.{verdictOf}
 use Rattle.pieces.specs.Folder.{Entry, IsEntry, AreEntries}
 use Rattle.container.specs.Container.{largest}
 use Rattle.container.specs.Reading.{Parsed, values, fault, parsed, outcomeOf, outcome, verdict}
-use Rattle.summary.specs.Rows.{rowText, carried, tally, start, oneMore, seen, seenIn, tallied, whole, lent, Row, writes, rowRoom, rowOf, rowedOf, lineOf, Answers}
+use Rattle.summary.specs.Rows.{rowText, carried, tally, start, oneMore, seen, seenIn, tallied, whole, lent, Row, writes, rowRoom, rowOf, rowedOf, lineOf, RowAnswers}
 use Rattle.summary.specs.Summary.{nextOffset, offsetAfter, rowFor, rowsFrom, afterOne, after, oneIf, conforming}
 use Rattle.summary.specs.declared.Tally.{Tally}
 use Rattle.summary.specs.declared.Rowed.{Rowed}
@@ -126,7 +126,7 @@ module _ (today at : ℕ) (e : Entry) (c : List ℕ) (t : Tally) (date : isDate 
       row-0 today (e .kind) at (length (e .bytes)) c t room date l long-enough
       ∙ ap (λ (p : Parsed (List ℕ)). writes (rowText (e .kind) at (length (e .bytes)) (verdictOf (outcomeOf p))) (tallied (e .kind) p t)) as-it-is
 
-  pub entry-row : (before left : List ℕ) (r : Rowed) → rowRoom ≤ length before → Answers today (e .kind) at (length (e .bytes)) c t before left r
+  pub entry-row : (before left : List ℕ) (r : Rowed) → rowRoom ≤ length before → RowAnswers today (e .kind) at (length (e .bytes)) c t before left r
       → (r ≡ record { number = 0; length = length (rowFor today at e); tally = afterOne today e t }) × (left ≡ filled (rowFor today at e) (length before))
   entry-row before left r l a =
       let same-row = row-is (length before) l in

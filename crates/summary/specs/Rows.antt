@@ -126,7 +126,7 @@ lineOf (refuses f) = []
 lineOf (writes line u) = line
 
 -- the whole answer, of a room that was d and is left as e: nothing of it is open
-pub record Answers (today kind offset size : ℕ) (c : List ℕ) (t : Tally) (d e : List ℕ) (r : Rowed) : Type 0 where
+pub record RowAnswers (today kind offset size : ℕ) (c : List ℕ) (t : Tally) (d e : List ℕ) (r : Rowed) : Type 0 where
   pub answer : r ≡ rowedOf t (rowOf today kind offset size c t (length d))
   pub room : e ≡ filled (lineOf (rowOf today kind offset size c t (length d))) (length d)
 

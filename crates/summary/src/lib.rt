@@ -3,8 +3,9 @@
 ghost use mathlib.Core.Bool.{true};
 ghost use mathlib.Core.Path.{_≡_};
 ghost use Prim.Native.Nat.{ℕ};
+ghost use lib.Dec.{ltb};
 ghost use lib.ListN.{length};
-ghost use Rattle.laws.specs.Room.{Put};
+ghost use Rattle.laws.specs.Room.{zeros, Put};
 ghost use Rattle.verdicts.specs.Output.{Leaves};
 ghost use Rattle.verdicts.specs.Verdicts.{outright, verdictOf};
 ghost use Rattle.verdicts.specs.declared.Outcome.the-variants.{Broken};
@@ -12,7 +13,7 @@ ghost use Rattle.kinds.specs.Tables.{table};
 ghost use Rattle.dates.specs.Date.{isDate};
 ghost use Rattle.container.specs.Container.{Allowed};
 ghost use Rattle.container.specs.Map.{Inside, rowValues};
-ghost use Rattle.summary.specs.Rows.{oneMore, seen, counted, byLength, lent, Judged, rowText, lastText, alike, fails, Answers, lastOutput};
+ghost use Rattle.summary.specs.Rows.{oneMore, seen, counted, byLength, lent, Judged, rowText, lastText, alike, fails, rowRoom, RowAnswers, lastOutput};
 use container::Map;
 use verdicts::Done;
 use verdicts::Fault;
@@ -163,6 +164,14 @@ fn is_lent(size: u64, length: usize) -> bool
     (32768 < size) | (length as u64 == size)
 }
 
+// The room is cleared, once, and whether it is "under 64 bytes".
+fn prepare(room: &mut [u8]) -> bool
+    ensures { λ r. ⌜ (now (room .exit) ≡ zeros (length (now (room .entry)))) × (r ≡ ltb (length (now (room .entry))) rowRoom) ⌝ }
+{
+    room::clear(room);
+    room.len() < 64
+}
+
 // A row: "2 for today comes first of all; 3 for a row's .. room under 64 bytes, before that container is looked at"; 32 where it was
 // cut short.
 pub fn row(
@@ -174,13 +183,13 @@ pub fn row(
     tally: Tally,
     room: &mut [u8],
 ) -> Rowed
-    ensures { λ r. ⌜ Answers today kind offset size (now (container .entry)) tally (now (room .entry)) (now (room .exit)) r ⌝ }
+    ensures { λ r. ⌜ RowAnswers today kind offset size (now (container .entry)) tally (now (room .entry)) (now (room .exit)) r ⌝ }
 {
-    room::clear(room);
+    let small = prepare(room);
     if !dates::is_date(today) {
         return refused(Fault::NoDate, tally);
     }
-    if room.len() < 64 {
+    if small {
         return refused(Fault::SmallRoom, tally);
     }
     if !is_lent(size, container.len()) {
@@ -213,8 +222,7 @@ fn put_last(good: u64, agreement: u64, out: &mut [u8]) -> usize
 pub fn last(good: u64, agreement: u64, room: &mut [u8]) -> Done
     ensures { λ r. ⌜ Leaves (lastOutput good agreement (length (now (room .entry)))) (now (room .entry)) (now (room .exit)) r ⌝ }
 {
-    room::clear(room);
-    if room.len() < 64 {
+    if prepare(room) {
         return verdicts::refused(verdicts::outright(Fault::SmallRoom));
     }
     verdicts::wrote(put_last(good, agreement, room))
