@@ -1,5 +1,5 @@
 -- What the second time through leaves: a row more each time, and at the end the summary. Assumes nothing.
-use Prim.Native.Nat.{ℕ, zero, suc, _+_, _-_, _*_, _<_, _≤_}
+use Prim.Native.Nat.{ℕ, zero, suc, _+_, _-_, _<_, _≤_}
 use mathlib.Core.Path.{_≡_, refl, sym, ap, ap₂, _∙_}
 use mathlib.Core.Logic.{inl, inr}
 use mathlib.Core.Bool.{Bool, true, false, true≢false}
@@ -88,34 +88,47 @@ module _ {today : ℕ} {g : Going} {text : List ℕ} (date : IsDate today) (s : 
     where
       before : List ℕ
       before = midOf (g .length) k text
+
       lent-room : length before ≡ rowRoom
       lent-room = length-take-le k (drop (g .length) text) (rw length-drop (omega (arith, s .inside, few, s .size-is, room))) ∙ room
+
       e : Entry
       e = entry kind size c
+
       long : length (e .bytes) ≡ size
       long = entry-long kind size c small fits b l
+
       d : isDate today ≡ true
       d = date-exact today .1 date
+
       is : IsEntry e
       is = is-entry kind size c small fits b l
+
       row : List ℕ
       row = rowFor today (g .offset) e
+
       got : (r ≡ record { number = 0; length = length row; tally = afterOne today e (g .tally) }) × (left ≡ filled row (length before))
       got = entry-row today (g .offset) e c (g .tally) d (lends kind size c small fits b l) before left r (omega (arith, lent-room)) (rw long a)
+
       short : length row ≤ rowRoom
       short = row-short today (g .offset) e d is (omega (arith, s .low, few))
+
       taken : r .length ≡ length row
       taken = ap (λ (r : Rowed). r .length) (got .0)
+
       left-is : left ≡ filled row k
       left-is = got .1 ∙ ap (filled row) (lent-room ∙ sym room)
+
       rows-are : take (g .length + r .length) (putMid (g .length) k text left) ≡ rowsFrom today firstOffset (s .es ++ e ∷ [])
       rows-are =
           ap₂ (λ (n : ℕ) (u : List ℕ). take (g .length + n) (putMid (g .length) k text u)) taken left-is
           ∙ written text row (g .length) k (omega (arith, s .inside, few, s .size-is))
           ∙ ap₂ (λ (u : List ℕ) (o : ℕ). u ++ rowFor today o e) (s .rows-are) (s .offset-is)
           ∙ sym (rows-more today firstOffset (s .es) e)
+
       same-size : length (putMid (g .length) k text left) ≡ length text
       same-size = same-len-mid (g .length) k text left (ap length left-is ∙ length-filled row k (omega (arith, short, room)) ∙ room ∙ sym lent-room)
+
       so-far : SoFar today (record { unread = false; count = g .count + 1; offset = g .offset + size + 5; length = g .length + r .length; tally = r .tally }) (putMid (g .length) k text left)
       so-far =
           record {
@@ -179,31 +192,41 @@ module _ {today : ℕ} {g : Going} {text : List ℕ} (s : SoFar today g text) (k
     where
       before : List ℕ
       before = midOf (g .length) k text
+
       lent-room : length before ≡ rowRoom
       lent-room = length-take-le k (drop (g .length) text) (rw length-drop (omega (arith, room-left, s .size-is, room))) ∙ room
+
       lines : List ℕ
       lines = lastText (g .tally .good) (alike (g .tally .agreement))
+
       output : lastOutput (g .tally .good) (g .tally .agreement) (length before) ≡ text-of lines
       output = last-0 (g .tally .good) (g .tally .agreement) (length before) (omega (arith, lent-room))
+
       good-is : g .tally .good ≡ conforming today (s .es)
       good-is = ap (λ (t : Tally). t .good) (s .tally-is) ∙ counts-all today (s .es) start (omega (arith, s .many, s .few)) ∙ zero-add (conforming today (s .es))
+
       short : length lines ≤ rowRoom
       short = last-most (g .tally .good) (alike (g .tally .agreement)) (omega (arith, good-is, few-conform today (s .es), s .many, s .few))
+
       taken : r .length ≡ length lines
       taken = ap (λ (d : Done). d .length) (a .answer ∙ ap doneOf output)
+
       left-is : left ≡ filled lines k
       left-is = a .room ∙ ap₂ (λ (o : Output) (n : ℕ). filled (bytesOf o) n) output (lent-room ∙ sym room)
+
       same-size : length (putMid (g .length) k text left) ≡ length text
       same-size = same-len-mid (g .length) k text left (ap length left-is ∙ length-filled lines k (omega (arith, short, room)) ∙ room ∙ sym lent-room)
+
       within : g .length + r .length ≤ length (putMid (g .length) k text left)
       within = omega (arith, same-size, taken, short, room-left, s .size-is)
+
       summary : IsSummary today (s .es) (take (g .length + r .length) (putMid (g .length) k text left))
       summary =
           record {
             agree = alike (g .tally .agreement);
             agree-is = rw (s .tally-is) (agrees today (s .es) (s .are));
             text-is =
-              ap₂ (λ (n : ℕ) (u : List ℕ). take (g .length + n) (putMid (g .length) k text u)) taken left-is
-              ∙ written text lines (g .length) k (omega (arith, room-left, s .size-is))
-              ∙ ap₂ (λ (u : List ℕ) (n : ℕ). u ++ lastText n (alike (g .tally .agreement))) (s .rows-are) good-is;
+                ap₂ (λ (n : ℕ) (u : List ℕ). take (g .length + n) (putMid (g .length) k text u)) taken left-is
+                ∙ written text lines (g .length) k (omega (arith, room-left, s .size-is))
+                ∙ ap₂ (λ (u : List ℕ) (n : ℕ). u ++ lastText n (alike (g .tally .agreement))) (s .rows-are) good-is;
           }

@@ -124,7 +124,15 @@ fn append(today: u64, kind: u8, size: u64, container: &[u8], going: Going, text:
     let end = at + 64;
     let tally = going.tally;
     let offset = going.offset;
-    let rowed = prosianek::row(today, kind, offset, size, container, tally, &mut text[at..end]);
+    let rowed = prosianek::row(
+        today,
+        kind,
+        offset,
+        size,
+        container,
+        tally,
+        &mut text[at..end],
+    );
     let after = rowed.tally;
     Going {
         unread: false,
@@ -275,7 +283,10 @@ fn summarise(fd: i32, today: u64, path: &[u8])
     let mut text = [0u8; 16448];
     let going = rows(fd, today, &mut text);
     if going.unread {
-        io::write_all(STDERR_FILENO, b"folder: the file could not be read again as it was\n");
+        io::write_all(
+            STDERR_FILENO,
+            b"folder: the file could not be read again as it was\n",
+        );
         return;
     }
     let n = close(today, going, &mut text);
@@ -310,7 +321,10 @@ fn main() {
         return;
     };
     if path_length == 0 {
-        io::write_all(STDERR_FILENO, b"folder: no file is named, or by a name that is too long\n");
+        io::write_all(
+            STDERR_FILENO,
+            b"folder: no file is named, or by a name that is too long\n",
+        );
         return;
     }
     let fd = os::open_read(&path[..path_length]);

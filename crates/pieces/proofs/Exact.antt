@@ -1,5 +1,5 @@
 -- Going over a folder ends well exactly where some entries spell its bytes, and there is only one such list. Assumes nothing.
-use Prim.Native.Nat.{ℕ, zero, suc, _+_, _*_, _-_, _^_, _<_, _≤_}
+use Prim.Native.Nat.{ℕ, zero, suc, _+_, _-_, _^_, _<_, _≤_}
 use mathlib.Core.Path.{_≡_, refl, sym, ap, ap₂, _∙_}
 use mathlib.Core.Logic.{_↔_}
 use mathlib.Core.List.{List, [], _∷_, _++_, append-assoc}
@@ -9,29 +9,16 @@ use lib.ListN.{length, take, drop, getD, take-append-drop}
 use lib.Seq.{length-take-le}
 use borrow.Author.Tests.{ne-eqb, lt-leb, lt-ltb, le-ltb}
 use Rattle.laws.specs.Bytes.{Bytes}
-use Rattle.laws.specs.Digits.{value, digits}
+use Rattle.laws.specs.Digits.{value}
 use Rattle.laws.specs.Layout.{number}
 use Rattle.laws.proofs.Bases.{value-digits, value-lt, digits-read, length-digits, below-digits, below-take, below-drop}
 use Rattle.texts.proofs.Reading.{Reads, long-reads, and-then, and, so, given, read}
-use Rattle.pieces.specs.Folder.{Entry, entryBytes, entriesBytes, folderBytes, IsEntry, AreEntries, IsFolder}
+use Rattle.pieces.specs.Folder.{Entry, entryBytes, entriesBytes, IsEntry, AreEntries, IsFolder}
 use Rattle.pieces.specs.Pieces.{at, first, passed, counted, long, more, one, over}
 use Rattle.pieces.specs.declared.State.{State}
-use Rattle.pieces.proofs.Laws.{skips}
+use Rattle.pieces.proofs.Laws.{head}
 
 -- ---- a number read byte by byte
-
--- a kind, and the four bytes of a length: what is kept at their end is the length
-head : (left k : ℕ) (p t : List ℕ) → k < 256 → Bytes p → length p ≡ 4 → over (at 2 0 left) (k ∷ (p ++ t)) ≡ over (long (value 256 p) left) t
-unfolding over one
-head left k [] t h b e = absurd (omega arith)
-head left k (x ∷ []) t h b e = absurd (omega arith)
-head left k (x ∷ y ∷ []) t h b e = absurd (omega arith)
-head left k (x ∷ y ∷ z ∷ []) t h b e = absurd (omega arith)
-head left k (x ∷ y ∷ z ∷ u ∷ []) t h b e = ap (λ (n : ℕ). over (long n left) t) four
-  where
-    four : more (more (more (more (more 0 k) x) y) z) u ≡ value 256 (x ∷ y ∷ z ∷ u ∷ [])
-    four = omega (arith, b .0, b .1 .0, b .1 .1 .0, b .1 .1 .1 .0)
-head left k (x ∷ y ∷ z ∷ u ∷ v ∷ p) t h b e = absurd (omega arith)
 
 count : (p t : List ℕ) → Bytes p → length p ≡ 2 → over first (p ++ t) ≡ over (counted (value 256 p)) t
 unfolding over one
@@ -86,7 +73,7 @@ one-through : (left : ℕ) (e : Entry) (t : List ℕ) → IsEntry e → over (at
 one-through left e t h =
     let n = length (e .bytes) in
     rw (append-assoc)
-    (head left (e .kind) (number 4 n) (e .bytes ++ t) (h .kind-is) (below-digits 256 (omega arith) 4 n) (length-digits 256 (omega arith) 4 n)
+    (head left 0 (e .kind) (number 4 n) (e .bytes ++ t) (below-digits 256 (omega arith) 4 n) (length-digits 256 (omega arith) 4 n)
     ∙ ap (λ (m : ℕ). over (long m left) (e .bytes ++ t)) (four-bytes n (h .length-is))
     ∙ through n left (e .bytes) t refl)
 
@@ -139,10 +126,13 @@ entry-first k b n p t small bytes others four e inside rest =
   where
     taken : length (take n t) ≡ n
     taken = length-take-le n t inside
+
     fits : n < 256 ^ 4
     fits = rw e (rw four at (value-lt 256 (omega arith) p bytes))
+
     whole : number 4 n ≡ p
     whole = rw e (rw four at (digits-read 256 (omega arith) 0 p bytes))
+
     joins : p ++ t ≡ (number 4 (length (take n t)) ++ take n t) ++ entriesBytes (rest .es)
     joins = rw (taken, whole, ← rest .spell) (ap (λ (l : List ℕ). p ++ l) (sym (take-append-drop n t)) ∙ sym (append-assoc p (take n t) (drop n t)))
 
@@ -158,11 +148,11 @@ one-more k more-of (x ∷ y ∷ z ∷ u ∷ w ∷ t) b h =
     let n : ℕ = value 256 p in
     let bytes : Bytes p = (b .1 .0, (b .1 .1 .0, (b .1 .1 .1 .0, (b .1 .1 .1 .1 .0, tt)))) in
     let rest : Bytes t = b .1 .1 .1 .1 .1 in
-    let gone = ap (λ (s : State). s .phase) (head (suc k) x p t (b .0) bytes refl) in
+    let gone = ap (λ (s : State). s .phase) (head (suc k) 0 x p t bytes refl) in
     elim (decLe n (length t)) [
       | yes inside ↦
-        let passed-over = ap (λ (l : List ℕ). over (long n (suc k)) l .phase) (sym (take-append-drop n t)) ∙ ap (λ (s : State). s .phase) (through n (suc k) (take n t) (drop n t) (length-take-le n t inside)) in
-        entry-first k x n p t (b .0) bytes rest refl refl inside (more-of (drop n t) (below-drop 256 n t rest) (sym passed-over ∙ sym gone ∙ h))
+          let passed-over = ap (λ (l : List ℕ). over (long n (suc k)) l .phase) (sym (take-append-drop n t)) ∙ ap (λ (s : State). s .phase) (through n (suc k) (take n t) (drop n t) (length-take-le n t inside)) in
+          entry-first k x n p t (b .0) bytes rest refl refl inside (more-of (drop n t) (below-drop 256 n t rest) (sym passed-over ∙ sym gone ∙ h))
       | no outside ↦ absurd (omega (arith, sym (cut-off n (suc k) t (omega arith)) ∙ sym gone ∙ h))
     ]
 
@@ -172,6 +162,7 @@ from (suc k) s b h = one-more k (from k) s b (ap (λ (t : State). over t s .phas
   where
     less : suc (suc k) - 1 ≡ suc k
     less = omega arith
+
     next : passed (suc (suc k)) ≡ at 2 0 (suc k)
     next = rw (lt-leb (suc (suc k)) 1 (omega arith), less)
 
@@ -190,8 +181,8 @@ whole (x ∷ y ∷ t) b h =
     let gone = ap (λ (s : State). s .phase) (count p t bytes refl) in
     elim (decLe n 256) [
       | yes few ↦
-        let r = from-count n t few (b .1 .1) (sym gone ∙ h) in
-        (r .es, record { few = rw (r .many) few; entries = r .are; bytes-are = rw (r .many, digits-read 256 (omega arith) 0 p bytes, ← r .spell) })
+          let r = from-count n t few (b .1 .1) (sym gone ∙ h) in
+          (r .es, record { few = rw (r .many) few; entries = r .are; bytes-are = rw (r .many, digits-read 256 (omega arith) 0 p bytes, ← r .spell) })
       | no many ↦ absurd (omega (arith, sym (ap (λ (s : State). over s t .phase) (too-many n (omega arith)) ∙ torn t) ∙ sym gone ∙ h))
     ]
   where
@@ -213,6 +204,7 @@ entry-reads e f h k =
   where
     n : ℕ
     n = length (e .bytes)
+
     m : ℕ
     m = length (f .bytes)
 
@@ -233,7 +225,9 @@ one-list s es fs h k =
   where
     n : ℕ
     n = length es
+
     m : ℕ
     m = length fs
+
     two : (n : ℕ) → n ≤ 256 → value 256 (number 2 n) ≡ n
     two n l = value-digits 256 (omega arith) 2 n (omega arith)

@@ -103,30 +103,43 @@ fn one_byte(s: State, x: u8) -> State
     }
 }
 
-// The state after a byte, or after as many of a container as can be passed over at once, and where the next one stands.
+// The state after a byte, or after as many as can be passed over at once, and where the next one stands.
 struct Turned {
     state: State,
     next: usize,
 }
 
+// What is left of a container, as far as the piece goes, and the kind and length of an entry that stand in the piece whole, are
+// taken at once; any other byte by itself.
 fn turn(s: State, piece: &[u8], i: usize) -> Turned
     requires { ⌜ i < length (now piece) ⌝ }
     ensures { λ r. ⌜ Turns s (now (piece .entry)) i r ⌝ }
 {
     let phase = s.phase;
     let value = s.value;
+    let left = s.left;
+    let room = piece.len() - i;
     if phase == 7 {
-        let skip = numbers::lesser(value as usize, piece.len() - i);
-        if 0 < skip {
+        if value < room as u64 {
             return Turned {
-                state: State {
-                    phase: 7,
-                    value: value - skip as u64,
-                    left: s.left,
-                },
-                next: i + skip,
+                state: next_entry(left),
+                next: i + value as usize + 1,
             };
         }
+        return Turned {
+            state: State {
+                phase: 7,
+                value: value - room as u64,
+                left: left,
+            },
+            next: piece.len(),
+        };
+    }
+    if (phase == 2) & (5 <= room) {
+        return Turned {
+            state: after_length(numbers::number(piece, i + 1, 4), left),
+            next: i + 5,
+        };
     }
     Turned {
         state: one_byte(s, piece[i]),

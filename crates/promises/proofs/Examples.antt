@@ -179,7 +179,6 @@ tested (signs kind c d number place tag which offset bytes) =
     let a = signedOf kind today c d in
     areBytes c && areBytes d && eqb (a .verdict .number) number && eqb (a .verdict .place) place && sameTag (a .verdict .tag) tag && eqb (a .which) which && eqb (a .offset) offset
     && same (a .bytes) bytes
-
 tested (folder-of s) = areBytes s && eqb (over begun s .phase) 8
 tested (no-folder s) = areBytes s && not (eqb (over begun s .phase) 8)
 tested (sums-up es lines) = areEntries es && same lines (rowsFrom today firstOffset es ++ lastText (conforming today es) (alike (after today es start .agreement)))

@@ -3,19 +3,18 @@ use Prim.Native.Nat.{ℕ, suc, _+_, _^_, _≤_, _<_}
 use mathlib.Core.Logic.{_↔_, inl, inr}
 use mathlib.Core.Path.{_≡_, refl, sym, ap, ap₂, _∙_}
 use mathlib.Core.Bool.{Bool, true, false, true≢false, _||_}
-use mathlib.Core.Option.{Option, none, some}
-use mathlib.Core.List.{List, [], _∷_, _++_, append-assoc}
+use mathlib.Core.Option.{some}
+use mathlib.Core.List.{List, [], _∷_, _++_}
 use native.Mathlib.Nat.{le-trans, zero-add}
-use native.Mathlib.Decide.{decLe}
 use native.Mathlib.Omega.{arith}
-use lib.Dec.{eqb, leb, ltb}
+use lib.Dec.{eqb, ltb}
 use lib.ListN.{length, take}
 use borrow.Author.Tests.{eqb-true, eq-eqb, eqb-false, ltb-true, ltb-false}
 use Rattle.laws.specs.Bytes.{Bytes}
 use Rattle.laws.specs.Room.{filled, zeros}
 use Rattle.laws.specs.Layout.{joined}
 use Rattle.laws.proofs.Cases.{which, either, or-left, or-right, not-so, alike, no-some}
-use Rattle.laws.proofs.Rooms.{filled-front, filled-none}
+use Rattle.laws.proofs.Rooms.{filled-front}
 use Rattle.fascn.specs.Fascn.{IsFascn}
 use Rattle.cbeff.specs.Header.{fingers, face, iris}
 use Rattle.cbeff.proofs.Exact.{fascn-inside}
@@ -23,12 +22,10 @@ use Rattle.dates.specs.Date.{IsDate, isDate}
 use Rattle.dates.proofs.Dates.{date-exact}
 use Rattle.kinds.specs.Tables.{table}
 use Rattle.kinds.specs.declared.ValueRule.the-variants.{Fascn, Fingers, Face, Iris}
-use Rattle.verdicts.specs.Verdicts.{numberOf, verdictOf}
-use Rattle.verdicts.specs.Output.{Leaves}
+use Rattle.verdicts.specs.Verdicts.{verdictOf}
 use Rattle.verdicts.specs.declared.Outcome.the-variants.{Fine}
 use Rattle.verdicts.specs.declared.Fault.{Fault}
 use Rattle.verdicts.specs.declared.Fault.the-variants.{NoDate, SmallRoom, TornFolder}
-use Rattle.verdicts.specs.declared.Verdict.{Verdict}
 use Rattle.verdicts.specs.declared.Done.{Done}
 use Rattle.verdicts.proofs.Apart.{one-outcome}
 use Rattle.container.specs.Container.{Values, Allowed, Conforms, largest}
@@ -38,22 +35,21 @@ use Rattle.container.proofs.Forms.{AllBytes, conforming-bytes}
 use Rattle.opens.specs.Open.{taggedValue, inHeader}
 use Rattle.opens.proofs.Openings.{value-keeps}
 use Rattle.opens.proofs.Valued.{value-bytes}
-use Rattle.elements.specs.Elements.{shape}
 use Rattle.report.proofs.Same.{same-forms}
 use Rattle.pieces.specs.Folder.{Entry, AreEntries, IsFolder}
 use Rattle.pieces.specs.Pieces.{first, over, overAll, ended}
 use Rattle.pieces.specs.declared.State.{State}
 use Rattle.pieces.proofs.Laws.{in-pieces}
 use Rattle.pieces.proofs.Exact as folder
-use Rattle.summary.specs.Rows.{carried, start, tallied, lent, whole, Row, refuses, writes, rowRoom, rowOf, rowText, fails, rowedOf, lineOf, lastText, lastOutput, RowAnswers}
+use Rattle.summary.specs.Rows.{carried, start, tallied, lent, whole, Row, refuses, writes, rowRoom, rowOf, rowText, rowedOf, lineOf, lastText, lastOutput}
 use Rattle.summary.specs.Rows as rows
 use Rattle.summary.specs.Summary.{firstOffset, nextOffset, rowFor, rowsFrom, afterOne, after, oneIf, conforming, Carries, Agree, IsSummary}
 use Rattle.summary.specs.declared.Tally.{Tally}
 use Rattle.summary.specs.declared.Rowed.{Rowed}
 use Rattle.summary.proofs.Laws.{row-2, row-3, row-32, row-0, last-0, last-3, row-most, small-whole, last-most}
-use Rattle.summary.proofs.Summing.{entry-row, row-is, counts}
+use Rattle.summary.proofs.Summing.{entry-row, counts}
 use Rattle.summary.proofs.Agreeing.{agrees}
-use Rattle.prosianek.specs.Calls.{Judges, FolderSteps, FolderEnds, Rows, Lasts}
+use Rattle.prosianek.specs.Calls.{FolderEnds, Rows, Lasts}
 use Rattle.promises.specs.Demands.{Numbered, Clean, GoesOver, Ends, torn, RowInTurn, small-room, cut-short, written, GoesThrough, Gives, Replaces, same, personal, refused, ReplacesEach, TheOrdersFolder}
 use Rattle.promises.specs.Demands as demand
 use Rattle.promises.proofs.Rooms.{answer, Fits, gave, left-nothing, left-text, clean}
@@ -132,8 +128,7 @@ row-line : (today at : ℕ) (e : Entry) (c : List ℕ) (t : Tally) (before left 
     → (length (e .bytes) ≤ largest → e .bytes ≡ c) → Rows today (e .kind) at (length (e .bytes)) c t before left r
     → (r .number ≡ 0) × (take (r .length) left ≡ rowFor today at e) × (r .tally ≡ afterOne today e t)
 row-line today at e c t before left r d l lends h =
-    let (is, room) = entry-row today at e c t (date-exact today .1 d) lends before left r l (h .answers) in
-    (
+    let (is, room) = entry-row today at e c t (date-exact today .1 d) lends before left r l (h .answers) in (
       ap (λ (x : Rowed). x .number) is,
       ap₂ (λ (n : ℕ) (u : List ℕ). take n u) (ap (λ (x : Rowed). x .length) is) room ∙ filled-front (rowFor today at e) (length before),
       ap (λ (x : Rowed). x .tally) is,
@@ -223,18 +218,20 @@ rows-given today at t (e ∷ es) =
 
 summed-up : (today : ℕ) (s : List ℕ) (es : List Entry) → IsDate today → IsFolder s es → (text : List ℕ) × Gives today es text
 summed-up today s es d f =
-    let (lines, u, h) = rows-given today firstOffset start es in
-    (_, record {
-      rows = lines;
-      tally = u;
-      through = h;
-      before = zeros 64;
-      after = _;
-      done = _;
-      room = zeros-64;
-      last = record { leaves = answer (lastOutput (u .good) (u .agreement) (length (zeros 64))) (zeros 64) };
-      text-is = refl;
-    })
+    let (lines, u, h) = rows-given today firstOffset start es in (
+      _,
+      record {
+        rows = lines;
+        tally = u;
+        through = h;
+        before = zeros 64;
+        after = _;
+        done = _;
+        room = zeros-64;
+        last = record { leaves = answer (lastOutput (u .good) (u .agreement) (length (zeros 64))) (zeros 64) };
+        text-is = refl;
+      },
+    )
 
 -- ---- what is counted and compared
 
@@ -332,8 +329,7 @@ same-rows today at [] (f ∷ fs) a b h = absurd h
 same-rows today at (e ∷ es) [] a b h = absurd h
 same-rows today at (e ∷ es) (f ∷ fs) a b h =
     let x = are-alike today e f (a .0 .bytes-are) (b .0 .bytes-are) (h .0) in
-    let (r, n) = same-rows today (nextOffset at e) es fs (a .1) (b .1) (h .1) in
-    (
+    let (r, n) = same-rows today (nextOffset at e) es fs (a .1) (b .1) (h .1) in (
       ap₂ (λ (u v : List ℕ). u ++ v) (same-row today at e f x) (r ∙ ap (λ (k : ℕ). rowsFrom today (at + k + 5) fs) (x .size-is)),
       ap (oneIf (parsed (e .kind) today (e .bytes))) n ∙ same-one today e f (conforming today fs) x,
     )

@@ -52,11 +52,10 @@ settled = record {
   );
   one-step = λ s piece r₁ r₂ a b. a .goes-on ∙ sym (b .goes-on);
   one-end = λ today s n₁ n₂ a b. a .answer ∙ sym (b .answer);
-  one-row = λ today kind offset size c t before₁ before₂ after₁ after₂ r₁ r₂ h a b.
-      (
-        a .answers .answer ∙ ap (λ (n : ℕ). rowedOf t (rowOf today kind offset size c t n)) h ∙ sym (b .answers .answer),
-        a .answers .room ∙ ap (λ (n : ℕ). filled (lineOf (rowOf today kind offset size c t n)) n) h ∙ sym (b .answers .room),
-      );
+  one-row = λ today kind offset size c t before₁ before₂ after₁ after₂ r₁ r₂ h a b. (
+    a .answers .answer ∙ ap (λ (n : ℕ). rowedOf t (rowOf today kind offset size c t n)) h ∙ sym (b .answers .answer),
+    a .answers .room ∙ ap (λ (n : ℕ). filled (lineOf (rowOf today kind offset size c t n)) n) h ∙ sym (b .answers .room),
+  );
   one-last = λ good agreement before₁ before₂ after₁ after₂ r₁ r₂ h a b. settled-output _ before₁ before₂ h (a .leaves) (rw h (b .leaves));
 }
 

@@ -96,7 +96,6 @@ Holds (fills-points c room number place tag first second) = (before after : List
 -- offset of the one that they lie in
 Holds (signs kind c d number place tag which offset bytes) = (at own-at : ℕ × ℕ) (n p t w : ℕ) (part : ℕ × ℕ) (b : List ℕ) → Signers kind today c d at own-at n p t w part b
     → Answers (record { verdict = record { number = number; place = place; tag = tag }; which = which; offset = offset; bytes = bytes }) at own-at n p t w part b
-
 Holds (folder-of s) = (es : List Entry) × IsFolder s es  -- these bytes are a folder
 Holds (no-folder s) = (es : List Entry) → IsFolder s es → ⊥
 Holds (sums-up es text) = AreEntries es × IsSummary today es text  -- these bytes are the summary of these entries
@@ -806,11 +805,11 @@ examples =
     -- a CHUID and FINGERS of one card, and a kind without FASC-N; two CHUIDs that differ, and one that is refused, which does not count
     ∷ sums-up [] (ascii "good 0\nagree yes\n")
     ∷ sums-up (entry 2 (chuidFor (p1 0xEB)) ∷ entry 6 (fingersWith (p1 0xEB) (ascii "SIG")) ∷ entry 3 (discovery 0x40) ∷ [])
-        (ascii "2 7 61 0 0 --\n6 73 137 0 0 --\n3 215 20 0 0 --\ngood 3\nagree yes\n")
+    (ascii "2 7 61 0 0 --\n6 73 137 0 0 --\n3 215 20 0 0 --\ngood 3\nagree yes\n")
     ∷ sums-up (entry 2 (chuidFor (p1 0xEB)) ∷ entry 2 (chuidFor p8) ∷ []) (ascii "2 7 61 0 0 --\n2 73 61 0 0 --\ngood 2\nagree no\n")
     ∷ sums-up (entry 2 (chuidFor (p1 0xEB)) ∷ entry 6 (fingersWith p8 (ascii "SIG")) ∷ []) (ascii "2 7 61 0 0 --\n6 73 137 0 0 --\ngood 2\nagree no\n")
     ∷ sums-up (entry 2 (chuidFor (p1 0xEB)) ∷ entry 2 (chuidOf (element 0x30 p8 ++ element 0x34 (replicate 16 0))) ∷ [])
-        (ascii "2 7 61 0 0 --\n2 73 47 18 29 34\ngood 1\nagree yes\n")
+    (ascii "2 7 61 0 0 --\n2 73 47 18 29 34\ngood 1\nagree yes\n")
     -- kinds that are none, and containers without a byte
     ∷ sums-up (entry 0 [] ∷ entry 50 (1 ∷ []) ∷ entry 13 [] ∷ entry 12 [] ∷ []) (ascii "0 7 0 1 0 --\n50 12 1 1 0 --\n13 18 0 1 0 --\n12 23 0 10 0 --\ngood 0\nagree yes\n")
     -- 64 bytes are enough, 63 are not; 3 before the container is looked at; 32 where it is not as long as it should be

@@ -2,15 +2,14 @@
 use Prim.Native.Nat.{ℕ, _≤_}
 use mathlib.Core.Path.{_≡_, refl, sym, ap, _∙_}
 use mathlib.Core.Logic.{inl, inr, _↔_}
-use mathlib.Core.Bool.{Bool, true, false, not, _&&_, true≢false}
+use mathlib.Core.Bool.{Bool, true, false, true≢false}
 use mathlib.Core.Option.{Option, none, some}
 use mathlib.Core.List.{List, [], _∷_}
 use native.Mathlib.Omega.{arith}
-use lib.Dec.{eqb}
 use borrow.Author.Tests.{eq-eqb, ne-eqb, le-ltb}
 use Rattle.laws.specs.Bytes.{Bytes}
 use Rattle.laws.specs.Tests.{same}
-use Rattle.laws.proofs.Cases.{which, no-some, same-exact}
+use Rattle.laws.proofs.Cases.{no-some, same-exact}
 use Rattle.pieces.specs.Folder.{Entry, AreEntries}
 use Rattle.container.specs.Container.{Values}
 use Rattle.container.specs.Reading.{Parsed, values, fault, parsed}
@@ -43,10 +42,13 @@ module _ (today : ℕ) (e : Entry) (b : Bytes (e .bytes)) where
       -- the values are those that were read
       same-values : (ws : Values) → values vs ≡ values ws → vs ≡ ws
       same-values ws q = cc
+
       carries-it : (g : List ℕ) → Carries today e g → carried (e .kind) vs ≡ some g
       carries-it g c = ap (carried (e .kind)) (same-values (c .vs) (sym h ∙ read-so g c)) ∙ c .carries
+
       seen-so : (o : Option (List ℕ)) → carried (e .kind) vs ≡ o → (t : Tally) → afterOne today e t ≡ seenIn o (oneMore t)
       seen-so o q t = ap (λ (p : Parsed (List ℕ)). tallied (e .kind) p t) h ∙ ap (λ (o : Option (List ℕ)). seenIn o (oneMore t)) q
+
       go : (o : Option (List ℕ)) → carried (e .kind) vs ≡ o → Looked today e
       go none q =
           nothing (λ g c. no-some (sym q ∙ carries-it g c))
@@ -133,8 +135,10 @@ module _ (today : ℕ) where
     where
       one′ : oneMore t .agreement ≡ 1
       one′ = same-agreement t ∙ h
+
       compared : same (oneMore t .fascn) f ≡ same (t .fascn) f
       compared = ap (λ (l : List ℕ). same l f) (same-fascn t)
+
       go : (b : Bool) → same (t .fascn) f ≡ b → (alike (after today es (afterOne today e t) .agreement) ≡ true) ↔ AgreeWith today (t .fascn) (e ∷ es)
       go true q =
           let (x, y) = sees-same f (oneMore t) one′ (compared ∙ q) in
@@ -142,9 +146,10 @@ module _ (today : ℕ) where
           with-same e es t (t .fascn) (λ g d. is ∙ u g d)
           (rw (ap (λ (v : Tally). v .fascn) (s t) ∙ y ∙ same-fascn t) at (i (afterOne today e t) (ap (λ (v : Tally). v .agreement) (s t) ∙ x)))
       go false q =
-          let two : 2 ≤ afterOne today e t .agreement = rw (s t) (sees-other f (oneMore t) one′ (compared ∙ q)) in
-          ((λ y. absurd (no-more (differ es a (afterOne today e t) two) y)),
-          λ y. absurd (true≢false (sym (same-exact (t .fascn) f .1 (y e f (inl refl) c)) ∙ q)))
+          let two : 2 ≤ afterOne today e t .agreement = rw (s t) (sees-other f (oneMore t) one′ (compared ∙ q)) in (
+            (λ y. absurd (no-more (differ es a (afterOne today e t) two) y)),
+            λ y. absurd (true≢false (sym (same-exact (t .fascn) f .1 (y e f (inl refl) c)) ∙ q)),
+          )
 
   with-first : (es : List Entry) → AreEntries es → (t : Tally) → t .agreement ≡ 1 → (alike (after today es t .agreement) ≡ true) ↔ AgreeWith today (t .fascn) es
   with-first [] a t h = ((λ _ e g m. absurd m), λ _. rw h refl)
@@ -158,6 +163,7 @@ module _ (today : ℕ) where
     where
       r : (alike (after today es (afterOne today e t) .agreement) ≡ true) ↔ Agree today es
       r = i (afterOne today e t) (s t .0 ∙ h)
+
       to : alike (after today es (afterOne today e t) .agreement) ≡ true → Agree today (e ∷ es)
       to y d d′ f g (inl m) m′ c c′ = absurd (n f (rw m at c))
       to y d d′ f g (inr m) (inl m′) c c′ = absurd (n g (rw m′ at c′))
@@ -166,11 +172,14 @@ module _ (today : ℕ) where
     where
       first : (seen f (oneMore t) .agreement ≡ 1) × (seen f (oneMore t) .fascn ≡ f)
       first = sees-first f (oneMore t) (same-agreement t ∙ h)
+
       r : (alike (after today es (afterOne today e t) .agreement) ≡ true) ↔ AgreeWith today f es
       r = rw (ap (λ (v : Tally). v .fascn) (s t) ∙ first .1) at (with-first es a (afterOne today e t) (ap (λ (v : Tally). v .agreement) (s t) ∙ first .0))
+
       as-first : alike (after today es (afterOne today e t) .agreement) ≡ true → (d : Entry) (g : List ℕ) → Among d (e ∷ es) → Carries today d g → f ≡ g
       as-first y d g (inl m) k = u g (rw m at k)
       as-first y d g (inr m) k = r .0 y d g m k
+
       to : alike (after today es (afterOne today e t) .agreement) ≡ true → Agree today (e ∷ es)
       to y d d′ g g′ m m′ k k′ = sym (as-first y d g m k) ∙ as-first y d′ g′ m′ k′
 

@@ -1,14 +1,13 @@
 -- The FASC-N that a container carries, as its map shows it. Assumes nothing.
 use Prim.Native.Nat.{ℕ, _-_, _≤_}
 use mathlib.Core.Path.{_≡_, refl, sym, ap, _∙_}
-use mathlib.Core.Logic.{_⊎_, inl, inr}
 use mathlib.Core.Bool.{true, false, _||_}
-use mathlib.Core.Option.{Option, none, some}
+use mathlib.Core.Option.{Option, some}
 use mathlib.Core.List.{List}
 use native.Mathlib.Omega.{arith}
 use lib.Dec.{eqb}
-use lib.ListN.{length, take, drop, getD, length-take, length-drop}
-use borrow.Author.Tests.{eq-eqb, ne-eqb, eqb-true}
+use lib.ListN.{length, drop, getD, length-take, length-drop}
+use borrow.Author.Tests.{ne-eqb, eqb-true}
 use Rattle.laws.specs.Bytes.{Bytes}
 use Rattle.laws.specs.Layout.{part}
 use Rattle.laws.proofs.Bases.{below-take, below-drop}
@@ -20,9 +19,9 @@ use Rattle.cbeff.specs.declared.Biometric.{Biometric}
 use Rattle.cbeff.proofs.Exact.{fascn-inside}
 use Rattle.kinds.specs.Tables.{table}
 use Rattle.kinds.specs.declared.ValueRule.the-variants.{Fascn, Fingers, Face, Iris}
-use Rattle.container.specs.Container.{Values, Allowed}
+use Rattle.container.specs.Container.{Allowed}
 use Rattle.container.specs.Map.{rowValue, rowValues}
-use Rattle.opens.specs.Open.{bytesOf, inHeader, taggedValue}
+use Rattle.opens.specs.Open.{bytesOf, inHeader}
 use Rattle.opens.proofs.Openings.{value-keeps}
 use Rattle.opens.proofs.Opens.{row, row-bytes, values}
 use Rattle.summary.specs.Rows.{carried, oneMore, seen, seenIn, counted}
@@ -63,7 +62,6 @@ module _ (starts ends c : List ℕ) (today : ℕ) where
         (λ q. let e = eqb-true kind 7 q in rw e (in-first 7 face (value-keeps today 0xBC (table 7) (values starts ends c 7) (rw e at a) Face refl) refl)))
         (λ q. let e = eqb-true kind 12 q in rw e (in-first 12 iris (value-keeps today 0xBC (table 12) (values starts ends c 12) (rw e at a) Iris refl) refl))
         h
-
 
 -- so with the FASC-N that the code takes the state is as it should be
 module _ (starts ends c : List ℕ) (kind : ℕ) (t : Tally) where

@@ -2,11 +2,10 @@
 use Prim.Native.Nat.{ℕ, _+_, _-_, _^_, _<_, _≤_}
 use mathlib.Core.Path.{_≡_, refl, sym, ap, _∙_}
 use mathlib.Core.Logic.{inl, inr}
-use mathlib.Core.Bool.{Bool, true, false, cond, not, _&&_, _||_}
-use mathlib.Core.List.{List, [], _∷_, _++_, append-nil}
-use native.Mathlib.Nat.{sub-self}
+use mathlib.Core.Bool.{Bool, true, false, not, _&&_}
+use mathlib.Core.List.{List, [], _++_, append-nil}
 use native.Mathlib.Omega.{arith}
-use lib.Dec.{eqb, ltb, leb}
+use lib.Dec.{eqb, ltb}
 use lib.ListN.{length, length-append, length-replicate}
 use borrow.Author.Tests.{eq-eqb, ne-eqb, eqb-true, lt-ltb, le-ltb, ltb-true, ltb-false, lt-leb}
 use Rattle.laws.specs.Room.{zeros, filled, Put}
@@ -18,10 +17,10 @@ use Rattle.texts.proofs.Bounds.{decimal-length}
 use Rattle.dates.specs.Date.{isDate}
 use Rattle.kinds.specs.Tables.{isKind}
 use Rattle.verdicts.specs.Verdicts.{outright, verdictOf}
-use Rattle.verdicts.specs.Output.{Output, refusal, text}
+use Rattle.verdicts.specs.Output.{refusal, text}
 use Rattle.verdicts.specs.declared.Fault.{Fault}
-use Rattle.verdicts.specs.declared.Fault.the-variants.{UnknownKind, NoDate, SmallRoom, LargeContainer, TornFolder}
-use Rattle.verdicts.specs.declared.Outcome.the-variants.{Fine, Broken}
+use Rattle.verdicts.specs.declared.Fault.the-variants.{NoDate, SmallRoom, TornFolder}
+use Rattle.verdicts.specs.declared.Outcome.the-variants.{Broken}
 use Rattle.verdicts.specs.declared.Verdict.{Verdict}
 use Rattle.verdicts.proofs.Apart.{number-small}
 use Rattle.container.specs.Container.{largest}
