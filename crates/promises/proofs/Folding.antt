@@ -4,15 +4,17 @@ use mathlib.Core.Logic.{_↔_, inl, inr}
 use mathlib.Core.Path.{_≡_, refl, sym, ap, ap₂, _∙_}
 use mathlib.Core.Bool.{Bool, true, false, true≢false, _||_}
 use mathlib.Core.Option.{some}
-use mathlib.Core.List.{List, [], _∷_, _++_}
+use mathlib.Core.List.{List, [], _∷_, _++_, append-assoc}
 use native.Mathlib.Nat.{le-trans, zero-add}
 use native.Mathlib.Omega.{arith}
 use lib.Dec.{eqb, ltb}
-use lib.ListN.{length, take}
+use lib.ListN.{length, take, drop, length-append}
+use lib.Seq.{take-append-seam, drop-append-seam, drop-append-add}
 use borrow.Author.Tests.{eqb-true, eq-eqb, eqb-false, ltb-true, ltb-false}
 use Rattle.laws.specs.Bytes.{Bytes}
 use Rattle.laws.specs.Room.{filled, zeros}
-use Rattle.laws.specs.Layout.{joined}
+use Rattle.laws.specs.Layout.{joined, number}
+use Rattle.laws.proofs.Bases.{length-digits}
 use Rattle.laws.proofs.Cases.{which, either, or-left, or-right, not-so, alike, no-some}
 use Rattle.laws.proofs.Rooms.{filled-front}
 use Rattle.fascn.specs.Fascn.{IsFascn}
@@ -36,14 +38,14 @@ use Rattle.opens.specs.Open.{taggedValue, inHeader}
 use Rattle.opens.proofs.Openings.{value-keeps}
 use Rattle.opens.proofs.Valued.{value-bytes}
 use Rattle.report.proofs.Same.{same-forms}
-use Rattle.pieces.specs.Folder.{Entry, AreEntries, IsFolder}
+use Rattle.pieces.specs.Folder.{Entry, entryBytes, entriesBytes, AreEntries, IsFolder}
 use Rattle.pieces.specs.Pieces.{first, over, overAll, ended}
 use Rattle.pieces.specs.declared.State.{State}
 use Rattle.pieces.proofs.Laws.{in-pieces}
 use Rattle.pieces.proofs.Exact as folder
 use Rattle.summary.specs.Rows.{carried, start, tallied, lent, whole, Row, refuses, writes, rowRoom, rowOf, rowText, rowedOf, lineOf, lastText, lastOutput}
 use Rattle.summary.specs.Rows as rows
-use Rattle.summary.specs.Summary.{firstOffset, nextOffset, rowFor, rowsFrom, afterOne, after, oneIf, conforming, Carries, Agree, IsSummary}
+use Rattle.summary.specs.Summary.{firstOffset, nextOffset, offsetAfter, rowFor, rowsFrom, afterOne, after, oneIf, conforming, Carries, Agree, IsSummary}
 use Rattle.summary.specs.declared.Tally.{Tally}
 use Rattle.summary.specs.declared.Rowed.{Rowed}
 use Rattle.summary.proofs.Laws.{row-2, row-3, row-32, row-0, last-0, last-3, row-most, small-whole, last-most}
@@ -92,6 +94,39 @@ end-numbered today s =
             | inr e ↦ rw (d, e) (inr (TornFolder, refl))
           ]
     ]
+
+-- ---- where a container stands
+
+-- behind other bytes and five of its own; so each stands where the rows say
+stands-behind : (p : List ℕ) (at : ℕ) (ds : List Entry) (e : Entry) (es : List Entry) → at ≡ length p + 5
+    → take (length (e .bytes)) (drop (offsetAfter at ds) (p ++ entriesBytes (ds ++ e ∷ es))) ≡ e .bytes
+stands-behind p at [] e es h =
+    let n : List ℕ = number 4 (length (e .bytes)) in
+    let rest : List ℕ = entriesBytes es in
+    let four : length (e .kind ∷ n) ≡ 5 = ap suc (length-digits 256 (omega arith) 4 (length (e .bytes))) in
+    ap (take (length (e .bytes)))
+    (ap (λ (k : ℕ). drop k (p ++ ((e .kind ∷ (n ++ e .bytes)) ++ rest))) h ∙ drop-append-add p ((e .kind ∷ (n ++ e .bytes)) ++ rest) 5
+    ∙ ap (drop 5) (ap (λ (l : List ℕ). e .kind ∷ l) (append-assoc n (e .bytes) rest))
+    ∙ ap (λ (k : ℕ). drop k ((e .kind ∷ n) ++ (e .bytes ++ rest))) (sym four) ∙ drop-append-seam (e .kind ∷ n) (e .bytes ++ rest))
+    ∙ take-append-seam (e .bytes) rest
+stands-behind p at (d ∷ ds) e es h =
+    ap (λ (l : List ℕ). take (length (e .bytes)) (drop (offsetAfter (nextOffset at d) ds) l)) (sym (append-assoc p (entryBytes d) (entriesBytes (ds ++ e ∷ es))))
+    ∙ stands-behind (p ++ entryBytes d) (nextOffset at d) ds e es longer
+  where
+    longer : nextOffset at d ≡ length (p ++ entryBytes d) + 5
+    longer =
+        omega (
+          arith,
+          h,
+          length-append p (entryBytes d),
+          length-append (number 4 (length (d .bytes))) (d .bytes),
+          length-digits 256 (omega arith) 4 (length (d .bytes)),
+        )
+
+stands-there : (s : List ℕ) (ds : List Entry) (e : Entry) (es : List Entry) → IsFolder s (ds ++ e ∷ es) → take (length (e .bytes)) (drop (offsetAfter firstOffset ds) s) ≡ e .bytes
+stands-there s ds e es f =
+    ap (λ (l : List ℕ). take (length (e .bytes)) (drop (offsetAfter firstOffset ds) l)) (f .bytes-are)
+    ∙ stands-behind (number 2 (length (ds ++ e ∷ es))) firstOffset ds e es (omega (arith, length-digits 256 (omega arith) 2 (length (ds ++ e ∷ es))))
 
 -- ---- a row
 
@@ -346,6 +381,7 @@ nothing-personal today es fs x y h g a b p q =
 pub the-orders-folder : TheOrdersFolder
 the-orders-folder = record {
   only-list = folder.one-list;
+  stands-there = stands-there;
   any-pieces = any-pieces;
   ends = ends;
   row-in-turn = row-in-turn;

@@ -54,7 +54,7 @@ use Rattle.pieces.specs.Folder.{Entry, AreEntries, IsFolder}
 use Rattle.pieces.specs.Pieces.{first}
 use Rattle.pieces.specs.declared.State.{State}
 use Rattle.summary.specs.Rows.{rowText, rowRoom, start, fails}
-use Rattle.summary.specs.Summary.{firstOffset, nextOffset, rowFor, afterOne, conforming, Carries, Agree, IsSummary}
+use Rattle.summary.specs.Summary.{firstOffset, nextOffset, offsetAfter, rowFor, afterOne, conforming, Carries, Agree, IsSummary}
 use Rattle.summary.specs.declared.Tally.{Tally}
 use Rattle.summary.specs.declared.Rowed.{Rowed}
 use Rattle.prosianek.specs.Calls.{Judges, Checks, Writes, Views, Reports, Lists, Points, Signers, Decodes, Encodes, FolderSteps, FolderEnds, Rows, Lasts}
@@ -493,6 +493,9 @@ ReplacesEach today (e ∷ es) (f ∷ fs) = Replaces today e f × ReplacesEach to
 pub record TheOrdersFolder : Type 0 where
   -- bytes spell at most one list
   pub only-list : (s : List ℕ) (es fs : List Entry) → IsFolder s es → IsFolder s fs → es ≡ fs
+  -- "offset of the container's first byte in the folder": that is where its bytes stand
+  pub stands-there : (s : List ℕ) (ds : List Entry) (e : Entry) (es : List Entry) → IsFolder s (ds ++ e ∷ es)
+      → take (length (e .bytes)) (drop (offsetAfter firstOffset ds) s) ≡ e .bytes
   -- it does not matter how they are cut into pieces
   pub any-pieces : (ps qs : List (List ℕ)) (r u : State) → joined ps ≡ joined qs → GoesOver first ps r → GoesOver first qs u → r ≡ u
   -- 32 exactly when there is no such list, and 2 first of all

@@ -71,14 +71,14 @@ seenIn (some f) t = seen f t
 abbrev pub counted : ℕ → Values → Tally → Tally
 counted kind vs t = seenIn (carried kind vs) (oneMore t)
 
--- a container: "a refused one does not count"
+-- a container: one that is refused does not count
 abbrev pub tallied : ℕ → Parsed (List ℕ) → Tally → Tally
 tallied kind (values vs) t = counted kind vs t
 tallied kind (fault f) t = t
 
 -- ---- a row's call
 
--- the container of so many bytes for which c was lent: "one over 32,768 by its length alone", whatever was lent, so that any bytes will do (`any-bytes`)
+-- the container of so many bytes for which c was lent: "one over 32,768 by its length alone", whatever was lent, so that any bytes will do (`whole-is` in `proofs/`)
 abbrev pub whole : ℕ → List ℕ → List ℕ
 whole size c = cond (ltb largest size) (zeros size) c
 
