@@ -229,37 +229,33 @@ fn put_new_name(path: &[u8], name: &mut [u8]) -> usize
     at + room::put_all(&digits[..n], &mut name[at..])
 }
 
-// It could not be written: no half of it stays.
-fn give_up(new: &[u8]) -> bool {
-    os::fail(b"folder: the summary cannot be written");
-    os::unlink(new);
-    false
+// Writes the text to a new file, which gets the summary's name once it is whole; where it cannot be written, no half of it stays.
+// Whether that could be done.
+fn make(new: &[u8], name: &[u8], text: &[u8]) -> bool {
+    let fd = os::create(new);
+    if fd < 0 {
+        os::fail(b"folder: the summary cannot be written");
+        return false;
+    }
+    if !io::write_all(fd, text)
+        || libc::fsync(fd) != 0
+        || libc::close(fd) != 0
+        || os::rename(new, name) != 0
+    {
+        os::fail(b"folder: the summary cannot be written");
+        os::unlink(new);
+        return false;
+    }
+    true
 }
 
-// Writes the text to a new file, which gets the summary's name once it is whole. Whether that could be done.
+// The same beside the folder.
 fn save(path: &[u8], text: &[u8]) -> bool {
     let mut new = io::buffer();
     let mut name = io::buffer();
     let new_length = put_new_name(path, &mut new);
     let name_length = put_name(path, &mut name);
-    let fd = os::create(&new[..new_length]);
-    if fd < 0 {
-        os::fail(b"folder: the summary cannot be written");
-        return false;
-    }
-    if !io::write_all(fd, text) {
-        return give_up(&new[..new_length]);
-    }
-    if libc::fsync(fd) != 0 {
-        return give_up(&new[..new_length]);
-    }
-    if libc::close(fd) != 0 {
-        return give_up(&new[..new_length]);
-    }
-    if os::rename(&new[..new_length], &name[..name_length]) != 0 {
-        return give_up(&new[..new_length]);
-    }
-    true
+    make(&new[..new_length], &name[..name_length], text)
 }
 
 // The one function of the program that writes a text. What it may write is a demand on its caller: a summary under this date, and
