@@ -1,5 +1,5 @@
--- The eight calls that C has: those of the door but the list of points, which C has as five lists. Each record is the whole contract of one function: the record of the door's call, of the numbers that the function answers
--- and stores. A verdict's tag is stored by its number. Nothing is left open (`promises`, `SettledForC`).
+-- Eight of the calls that C has: those of the door but the list of points, which C has as five lists, and those of a folder (`Folder.antt`). Each record is the
+-- whole contract of one function: the record of the door's call, of the numbers that the function answers and stores. A verdict's tag is stored by its number. Nothing is left open (`promises`, `SettledForC`).
 use Prim.Native.Nat.{ℕ}
 use mathlib.Core.Path.{_≡_}
 use mathlib.Core.List.{List}
