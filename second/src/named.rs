@@ -196,6 +196,24 @@ fn large_chuid(total: usize) -> Card {
 
 const P1: [u64; 9] = [1234, 1, 5, 1, 1, 7, 1, 1234, 1];
 
+/// The FASC-N of P1 with another number in one place: the credential, the series and so on, each one more in its last digit and in
+/// its first. Beside each stands which number it is.
+fn other_fascns() -> Vec<(usize, [u8; 25])> {
+    let mut others = Vec::new();
+    for (field, unit) in
+        [(0, 1_000), (1, 1_000), (2, 100_000), (3, 1), (4, 1), (5, 1_000_000_000), (6, 1), (7, 1_000), (8, 1)]
+    {
+        for more in [1, unit] {
+            let mut numbers = P1;
+            numbers[field] += more;
+            let mut fascn = [0; 25];
+            assert_eq!(crate::fascn_encode(&numbers, &mut fascn), 0);
+            others.push((field, fascn));
+        }
+    }
+    others
+}
+
 fn fascns() -> Vec<Group> {
     let mut long = EXAMPLE_FASCN.to_vec();
     long.push(0);

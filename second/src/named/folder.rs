@@ -370,22 +370,13 @@ fn longer_orders() -> Group {
     ("more than two: the third differs, the first again, none with a FASC-N, and none that conforms", cases.concat())
 }
 
-/// FASC-N with another number in one place: the credential, the series and so on, each one more in its last digit and in its first.
 fn other_digits() -> Group {
     let mut cases = Vec::new();
-    for (field, unit) in
-        [(0, 1_000), (1, 1_000), (2, 100_000), (3, 1), (4, 1), (5, 1_000_000_000), (6, 1), (7, 1_000), (8, 1)]
-    {
-        for more in [1, unit] {
-            let mut numbers = P1;
-            numbers[field] += more;
-            let mut fascn = [0; 25];
-            assert_eq!(crate::fascn_encode(&numbers, &mut fascn), 0);
-            let kind = FOUR[field % 4];
-            let second = format!("{} 73 {} 0 0 --", kind, length_of(kind));
-            let both = [chuid_of(&EXAMPLE_FASCN), holding(kind, &fascn)];
-            cases.extend(of(&both, &["2 7 61 0 0 --", &second, "good 2", "agree no"]));
-        }
+    for (field, fascn) in other_fascns() {
+        let kind = FOUR[field % 4];
+        let second = format!("{} 73 {} 0 0 --", kind, length_of(kind));
+        let both = [chuid_of(&EXAMPLE_FASCN), holding(kind, &fascn)];
+        cases.extend(of(&both, &["2 7 61 0 0 --", &second, "good 2", "agree no"]));
     }
     ("FASC-N that differ in one digit, whichever it is", cases)
 }
