@@ -117,7 +117,7 @@ digits-tail n =
     (digits-digits 4 (n .organisation)))
     (digits-digits 1 (n .association))
 
-check-none : (n : Numbers) → exclusive 0 (checked n) ≡ 0
+pub check-none : (n : Numbers) → exclusive 0 (checked n) ≡ 0
 unfolding checked
 check-none n = exclusive-last 0 (values n) (exclusive 0 (values n)) ∙ xor-self (exclusive 0 (values n))
 

@@ -16,11 +16,11 @@ use Rattle.fascn.specs.declared.Numbers.{Numbers}
 use Rattle.fascn.proofs.Characters.{below-symbols, values-symbols, symbols-values}
 use Rattle.fascn.proofs.Framing.{below-checked}
 
-below-characters : (n : Numbers) → Below 32 (characters n)
+pub below-characters : (n : Numbers) → Below 32 (characters n)
 unfolding characters
 below-characters n = below-symbols (checked n)
 
-length-characters : (n : Numbers) → length (characters n) ≡ 40
+pub length-characters : (n : Numbers) → length (characters n) ≡ 40
 unfolding characters checked values digits
 length-characters n = refl
 
@@ -51,7 +51,7 @@ values-read s b l e f = f ∙ ap (map valueOf) (rw (rest s 0) at e) ∙ values-g
 
 -- ---- there and back
 
-value-encoded : (n : Numbers) → value 256 (encoded n) ≡ value 32 (characters n)
+pub value-encoded : (n : Numbers) → value 256 (encoded n) ≡ value 32 (characters n)
 unfolding encoded
 value-encoded n = value-digits 256 (lit< tt) 25 (value 32 (characters n)) (rw (length-characters n) at (value-lt 32 (lit< tt) (characters n) (below-characters n)))
 

@@ -1,14 +1,16 @@
--- Fields in a row of bytes: what is joined is cut again by its widths, a number's bytes are read as that number. Assumes nothing.
-use Prim.Native.Nat.{ℕ, zero, suc, _+_, _^_, _<_, _≤_}
+-- Fields in a row of bytes: what is joined is cut again by its widths, digits that are joined are those of one number, a number's bytes are read as that number.
+-- Assumes nothing.
+use Prim.Native.Nat.{ℕ, zero, suc, _+_, _*_, _^_, _<_, _≤_}
 use mathlib.Core.Path.{_≡_, refl, sym, ap, _∙_}
-use mathlib.Core.List.{List, [], _∷_, _++_}
+use mathlib.Core.List.{List, [], _∷_, _++_, map}
+use native.Mathlib.Nat.{mul-one, zero-mul, zero-add, suc-mul, add-comm}
 use native.Mathlib.Omega.{arith}
 use lib.ListN.{length, getD, take, drop, length-drop, take-append-drop, drop-of-length-le}
 use lib.Seq.{drop-cons, take-add, take-take, drop-drop, length-take-le}
-use Rattle.laws.specs.Digits.{value}
-use Rattle.laws.specs.Bytes.{Bytes}
+use Rattle.laws.specs.Digits.{digits, value}
+use Rattle.laws.specs.Bytes.{Below, Bytes}
 use Rattle.laws.specs.Layout.{number, joined, part, field, cut, total}
-use Rattle.laws.proofs.Bases.{below-take, below-drop, digits-read, value-digits, value-lt}
+use Rattle.laws.proofs.Bases.{below-take, below-drop, read-split, digits-append, digits-read, value-digits, value-lt, powers}
 
 -- the parts of a cut, joined again, are what was cut
 pub joined-cut : (ws : List ℕ) (at : ℕ) (s : List ℕ) → joined (cut at ws s) ≡ part s at (total ws)
@@ -46,6 +48,19 @@ entries-from at (suc n) s h = drop-cons s at 0 (omega arith) ∙ ap (λ (l : Lis
 -- a list of n elements is its entries
 pub by-entries : (n : ℕ) (s : List ℕ) → length s ≡ n → s ≡ entries 0 n s
 by-entries n s h = entries-from 0 n s (omega arith)
+
+-- ---- digits in base B, each as m digits in base b, are the digits in base b of the number that they spell
+
+module _ (b B m : ℕ) (pos : 0 < b) (Pos : 0 < B) (fit : B ^ 1 ≡ b ^ m) where
+  pub joined-digits : (xs : List ℕ) → Below B xs → joined (map (digits b m) xs) ≡ digits b (length xs * m) (value B xs)
+  unfolding digits
+  joined-digits [] h = rw (zero-mul m)
+  joined-digits (x ∷ xs) h =
+      let l : ℕ = length xs * m in
+      let p : B ^ length xs ≡ b ^ l = rw mul-one at (powers B b 1 m Pos pos fit (length xs)) in
+      let s : value B xs < b ^ l = rw p at (value-lt B Pos xs (h .1)) in
+      let e : value B (x ∷ xs) ≡ x * b ^ l + value B xs = read-split B Pos (0 * B + x) xs ∙ rw (zero-mul, zero-add, p) in
+      rw (joined-digits xs (h .1), suc-mul, add-comm l m, e) (sym (digits-append b pos m l x (value B xs) s))
 
 -- ---- numbers in bytes
 

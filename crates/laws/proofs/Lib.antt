@@ -6,3 +6,4 @@ pub mod Rooms
 pub mod Formats
 pub mod Scans
 pub mod Arms
+pub mod Xor

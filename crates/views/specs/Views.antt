@@ -27,11 +27,13 @@ partOf [] ps t = none
 partOf (r ∷ rs) [] t = none
 partOf (r ∷ rs) (o ∷ ps) t = cond (eqb t (r .tag)) o (partOf rs ps t)
 
--- "its place and length are fixed": of a kind's values in some forms, the value of row i, which has the tag t, stands behind the outer tag and length, the
--- elements of the rows before it, and its own tag and length, each length in its form
+-- of a kind's values in some forms, the element of row i stands behind the outer tag and length and the elements of the rows before it
+abbrev pub elementPlace : ℕ → Values → Forms → ℕ → ℕ
+elementPlace kind vs fs i = 1 + length (fs .outer) + length (spelled (take i (table kind)) (take i vs) (take i (fs .rows)))
+
+-- "its place and length are fixed": its value, where it has the tag t, stands behind its own tag and length, each length in its form
 abbrev pub placeOf : ℕ → Values → Forms → ℕ → ℕ → ℕ
-placeOf kind vs fs i t =
-    1 + length (fs .outer) + length (spelled (take i (table kind)) (take i vs) (take i (fs .rows))) + long t + length (getD (fs .rows) i [])
+placeOf kind vs fs i t = elementPlace kind vs fs i + long t + length (getD (fs .rows) i [])
 
 abbrev pub nothing : Part
 nothing = record { offset = 0; bytes = [] }

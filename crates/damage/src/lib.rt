@@ -1,0 +1,1 @@
+// No code: what damage in a FASC-N does, as theorems in proofs/.
