@@ -22,7 +22,7 @@ characters-run : (vs : List ℕ) → joined (map (digits 2 5) (map symbol vs)) �
 characters-run [] = refl
 characters-run (v ∷ vs) = rw (characters-run vs)
 
-bytes-encoded : (n : Numbers) → Bytes (encoded n)
+pub bytes-encoded : (n : Numbers) → Bytes (encoded n)
 unfolding encoded
 bytes-encoded n = below-digits 256 (lit< tt) 25 (value 32 (characters n))
 

@@ -13,7 +13,7 @@ use lib.Seq.{take-all}
 use borrow.Author.Tests.{eqb-true, eqb-false, eq-eqb, ltb-true, ltb-false, leb-true, le-leb, not-true}
 use Rattle.laws.specs.Bytes.{Bytes}
 use Rattle.laws.specs.Digits.{digits}
-use Rattle.laws.specs.Tests.{each, same}
+use Rattle.laws.specs.Tests.{allBelow, each, same}
 use Rattle.laws.specs.Room.{filled}
 use Rattle.laws.proofs.Cases.{which, and-true, all-true, same-eq}
 use Rattle.fascn.specs.Fascn.{exclusive, values, checked, characters, encoded, inRange}
@@ -70,6 +70,7 @@ use Rattle.points.proofs.Once.{says-once}
 use Rattle.views.specs.Views.{viewed}
 use Rattle.blocks.proofs.Computed.{blockOf}
 use Rattle.signer.proofs.Computed.{signedOf, says}
+use Rattle.damage.proofs.Tested.{spans as spanned, damaged}
 use Rattle.pieces.specs.Folder.{Entry, AreEntries}
 use Rattle.pieces.specs.Pieces.{first as begun, one, over}
 use Rattle.pieces.proofs.Exact as folder
@@ -82,7 +83,7 @@ use Rattle.prosianek.proofs.Checking.{answer, output, only}
 use Rattle.promises.specs.Demands.{sizes}
 use Rattle.promises.proofs.Listing.{Told, computed, computed-says}
 use Rattle.promises.proofs.Signing.{as-said}
-use Rattle.promises.specs.Examples.{Example, fascn-of, no-fascn, spells, no-length, date, no-date, kept, late, printed-date, no-printed-date, conforms, breaks, checks, writes, reports, fills-lists, fills-points, signs, folder-of, no-folder, sums-up, rows-as, lasts-as, today, Holds, All, examples}
+use Rattle.promises.specs.Examples.{Example, fascn-of, no-fascn, spans, spells, no-length, date, no-date, kept, late, printed-date, no-printed-date, conforms, breaks, checks, writes, reports, fills-lists, fills-points, signs, folder-of, no-folder, sums-up, rows-as, lasts-as, today, Holds, All, examples}
 
 -- ---- each row as a test
 
@@ -151,6 +152,7 @@ quickRow kind offset size c t room =
 tested : Example → Bool
 tested (fascn-of s n) = inRange n && same s (encoded n)
 tested (no-fascn s) = areBytes s && not (isFascn s)
+tested (spans width first s t) = areBytes t && spanned width first s t
 tested (spells s n) = areBytes s && isLength (readLength s) n (length s)
 tested (no-length s) = areBytes s && isNone (readLength s)
 tested (date n) = isDate n
@@ -459,6 +461,7 @@ so : (e : Example) → tested e ≡ true → Holds e
 unfolding tested isNone
 so (fascn-of s n) t = let c = and-true (inRange n) (same s (encoded n)) t in record { in-range = range-exact n .0 (c .0); written = same-eq s (encoded n) (c .1) }
 so (no-fascn s) t = let c = and-true (areBytes s) (not (isFascn s)) t in fails (isFascn s) (fascn-exact s (are-bytes s (c .0))) (c .1)
+so (spans width first s t) q = let c = and-true (areBytes t) (spanned width first s t) q in damaged width first s t (are-bytes t (c .0)) (c .1)
 so (spells s n) t =
     let c = and-true (areBytes s) (isLength (readLength s) n (length s)) t in
     rw (take-all (length s) s (omega arith)) at (exact s (are-bytes s (c .0)) n (length s) .0 (is-length (readLength s) n (length s) (c .1)) .1)
@@ -503,7 +506,7 @@ all-so [] t = tt
 all-so (e ∷ es) t = let c = and-true (tested e) (allTested es) t in (so e (c .0), all-so es (c .1))
 
 all-tested : allTested examples ≡ true
-unfolding allTested tested areBytes isNone isLength sameTag sameOutput samePoint samePoints sameTold holdsEach pointsOf examples ones digits exclusive values checked characters encoded valuesOf framed decoded isFascn lengthBytes readLength daysIn exists isDate dateOf twoDigits monthNumber isPrintedDate isMoment isUuid isPolicy isText ended isCreator pointHolds pointsHold viewHead fills whole extent recordHead isMinutiae informed blockExtent faceHead isFacial dateHolds marksHold shapeHolds irisExtent irisHead isIris readDer headOf items walked certificate ruleOf element located parsed outcome sheetOf writeOutput fixed decimal hex2 hexTag cardPart elementLines elementCount openPart reportText reportOutput viewed blockOf signedOf areEntries sameTally sameRow one over rowText lastText seen quickRow lastOutput
+unfolding allTested tested areBytes spanned allBelow isNone isLength sameTag sameOutput samePoint samePoints sameTold holdsEach pointsOf examples ones digits exclusive values checked characters encoded valuesOf framed decoded isFascn lengthBytes readLength daysIn exists isDate dateOf twoDigits monthNumber isPrintedDate isMoment isUuid isPolicy isText ended isCreator pointHolds pointsHold viewHead fills whole extent recordHead isMinutiae informed blockExtent faceHead isFacial dateHolds marksHold shapeHolds irisExtent irisHead isIris readDer headOf items walked certificate ruleOf element located parsed outcome sheetOf writeOutput fixed decimal hex2 hexTag cardPart elementLines elementCount openPart reportText reportOutput viewed blockOf signedOf areEntries sameTally sameRow one over rowText lastText seen quickRow lastOutput
 all-tested = refl
 
 pub examples-hold : All examples

@@ -6,6 +6,7 @@ pub mod Demand1
 pub mod Demand2
 pub mod Demand3
 pub mod AtTheDesk
+pub mod Damage
 pub mod Settled
 pub mod Examples
 pub mod Longest

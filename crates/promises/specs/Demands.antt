@@ -1,7 +1,8 @@
 -- The user's three demands, in the user's order and words, as statements about the thirteen calls of the door (`Checks`, `Writes`, `Views`, `Reports`, `Lists`,
 -- `Points`, `Signers`, `Decodes`, `Encodes`, `FolderSteps`, `FolderEnds`, `Rows`, `Lasts`: what a call answers and leaves; `Judges`: the verdict that a check gives). Each is a record of statements, and
 -- `proofs/` has the theorem for each: `demand-1`, `demand-2`, `demand-3`; `at-the-desk`, the third of what the desk program prints; `no-long-report`,
--- `as-a-list`, `whose-certificate` and `the-orders-folder`, what 2026-12, 2026-10, 2026-11 and 2026-14 ask for; `settled` and `settled-for-c`, that no answer is left open.
+-- `as-a-list`, `whose-certificate`, `the-orders-folder` and `damage-refused`, what 2026-12, 2026-10, 2026-11, 2026-14 and 2026-08 ask for; `settled` and
+-- `settled-for-c`, that no answer is left open.
 --
 -- A room is `before` when it is lent and `after` when it comes back. `Bytes c` says that each number of c is below 256, as it is in every slice that a
 -- program can give.
@@ -41,7 +42,7 @@ use Rattle.opens.specs.Open.{agencyOf, systemOf, openOf}
 use Rattle.report.specs.Report.{reportText}
 use Rattle.report.specs.Longest.{longestOf}
 use Rattle.writing.specs.InOrder.{Refused}
-use Rattle.views.specs.Views.{placeOf}
+use Rattle.views.specs.Views.{elementPlace, placeOf}
 use Rattle.points.specs.Points.{pointBytes, HasPoints}
 use Rattle.points.specs.Calls.{nothing, entries, Five, five, listsOf, HoldsEach, refusedBy, counted}
 use Rattle.points.specs.declared.Point.{Point}
@@ -49,7 +50,8 @@ use Rattle.points.specs.declared.Listed.{Listed}
 use Rattle.der.specs.Der.{Item, derBytes}
 use Rattle.blocks.specs.Block as block
 use Rattle.blocks.specs.Block.{SignedData, IsBlock}
-use Rattle.signer.specs.Signer.{Chuid, IsBiometric, Biometric, NoBlock, HoldsNone, Holding}
+use Rattle.signer.specs.Signer.{Element, Chuid, IsBiometric, Biometric, NoBlock, HoldsNone, Holding}
+use Rattle.damage.specs.Damage.{bits, six, Damaged, DamagedIn}
 use Rattle.pieces.specs.Folder.{Entry, AreEntries, IsFolder}
 use Rattle.pieces.specs.Pieces.{first}
 use Rattle.pieces.specs.declared.State.{State}
@@ -528,6 +530,27 @@ pub record TheOrdersFolder : Type 0 where
   -- "replace personal values so that the rules are met and the agreement line stays, and the whole summary stays"
   pub nothing-personal : (today : ℕ) (es fs : List Entry) → AreEntries es → AreEntries fs → ReplacesEach today es fs → (Agree today es ↔ Agree today fs)
       → (a b : List ℕ) → IsSummary today es a → IsSummary today fs b → a ≡ b
+
+-- ---- 2026-08. "A printer fault smears neighbouring bits. Please prove: take any FASC-N that conforms, change one or more bits, all lying within six
+-- neighbouring bits of the 200, and the result is refused. Seven is too many: two neighbouring digits 00 turned into 33 keep both parities and the check".
+
+pub record DamageRefused : Type 0 where
+  -- "the 200"
+  pub two-hundred : (s : List ℕ) → IsFascn s → length (bits s) ≡ 200
+  -- "the result is refused": it is no FASC-N
+  pub no-fascn : (s t : List ℕ) → IsFascn s → Damaged six s t → IsFascn t → ⊥
+  -- so a decode refuses it
+  pub decode-refuses : (s t : List ℕ) → IsFascn s → Damaged six s t → (r : Decoded) → Decodes t r → (r .number ≡ numberOf BadFascn) × (r .numbers ≡ noNumbers)
+  -- and so does the check of a CHUID that had the FASC-N in 30, and of a biometric that had it in the header of BC: with 17, at the element's place and with its
+  -- tag, whatever follows the FASC-N
+  pub chuid-refused : (today : ℕ) (c d f : List ℕ) (at : ℕ) → Bytes c → Bytes d → (x : Element 2 today c 0x30 f at) → DamagedIn c d f at
+      → (before after : List ℕ) (r : Checked) → Checks 2 today d before after r
+      → r .verdict ≡ record { number = numberOf BadFascn; place = elementPlace 2 (x .values) (x .conforms .forms) (x .row); tag = Of 0x30 }
+  pub header-refused : (kind today : ℕ) → IsBiometric kind → (c d v : List ℕ) (at : ℕ) → Bytes c → Bytes d → (x : Element kind today c 0xBC v at)
+      → DamagedIn c d (part v 59 25) (at + 59) → (before after : List ℕ) (r : Checked) → Checks kind today d before after r
+      → r .verdict ≡ record { number = numberOf BadFascn; place = elementPlace kind (x .values) (x .conforms .forms) (x .row); tag = Of 0xBC }
+  -- "Seven is too many"
+  pub seven-too-many : (s : List ℕ) × (t : List ℕ) × IsFascn s × IsFascn t × Damaged 7 s t
 
 -- ---- "For each public call the contract determines number, place, returned part and each byte of lent room, on every input and every refusal. Any two
 -- results that satisfy it are shown equal." The tag is a part of the answer as the place is. Rooms of one length may have held anything before. (A returned part has a block, an offset and bytes; the ghost

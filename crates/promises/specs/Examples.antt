@@ -1,9 +1,9 @@
--- The examples of document 01, P1 to P14, those of requests 2026-04, 2026-13, 2026-02, 2026-01, 2026-03, 2026-05, 2026-06, 2026-12, 2026-10 and 2026-11, and further rows, as one table: what each row says, over the rules themselves, and the table.
-use Prim.Native.Nat.{ℕ, zero, suc, _+_}
+-- The examples of document 01, P1 to P14, those of requests 2026-04, 2026-13, 2026-02, 2026-01, 2026-03, 2026-05, 2026-06, 2026-12, 2026-10, 2026-11, 2026-14 and 2026-08, and further rows, as one table: what each row says, over the rules themselves, and the table.
+use Prim.Native.Nat.{ℕ, zero, suc, _+_, _-_}
 use mathlib.Core.Path.{_≡_}
 use mathlib.Core.Option.{Option, none, some}
 use mathlib.Core.List.{List, [], _∷_, _++_}
-use lib.ListN.{length, take, drop, getD, replicate}
+use lib.ListN.{length, take, drop, getD, set, replicate}
 use Rattle.laws.specs.Ascii.{ascii}
 use Rattle.laws.specs.Layout.{number}
 use Rattle.laws.specs.Room.{filled}
@@ -25,6 +25,7 @@ use Rattle.points.specs.Calls.{entries, Five, listsOf}
 use Rattle.points.specs.declared.Point.{Point}
 use Rattle.points.specs.declared.Listed.{Listed}
 use Rattle.signer.specs.Signer.{Answers}
+use Rattle.damage.specs.Damage.{bit, Damaged}
 use Rattle.pieces.specs.Folder.{Entry, AreEntries, IsFolder}
 use Rattle.summary.specs.Rows.{tally, start}
 use Rattle.summary.specs.Summary.{IsSummary}
@@ -38,6 +39,7 @@ use Rattle.promises.specs.Demands.{sizes}
 pub data Example : Type 0 where
   fascn-of : List ℕ → Numbers → Example
   no-fascn : List ℕ → Example
+  spans : ℕ → ℕ → List ℕ → List ℕ → Example
   spells : List ℕ → ℕ → Example
   no-length : List ℕ → Example
   date : ℕ → Example
@@ -67,6 +69,8 @@ today = 20260301
 abbrev pub Holds : Example → Type 0
 Holds (fascn-of s n) = IsFascnOf s n  -- these bytes are the FASC-N of these numbers
 Holds (no-fascn s) = IsFascn s → ⊥  -- they are that of none
+-- t is s damaged within so many neighbouring bits, those from this one on, of which the first and the last are changed: the damage spans them all
+Holds (spans width first s t) = (d : Damaged width s t) × (d .first ≡ first) × (bit t first ≡ bit s first → ⊥) × (bit t (first + (width - 1)) ≡ bit s (first + (width - 1)) → ⊥)
 Holds (spells s n) = Spells s n  -- these bytes are the length
 Holds (no-length s) = (p r : List ℕ) (n : ℕ) → s ≡ p ++ r → Spells p n → ⊥  -- no bytes at their front are a length
 Holds (date n) = IsDate n  -- this number is a date
@@ -121,6 +125,13 @@ abbrev p1 : ℕ → List ℕ
 p1 last =
     0xD4 ∷ 0x11 ∷ 0x92 ∷ 0x58 ∷ 0x21 ∷ 0x0C ∷ 0x2C ∷ 0x10 ∷ 0x84 ∷ 0x21 ∷ 0xAD ∷ 0xA1 ∷ 0x68 ∷ 0x58 ∷ 0x21 ∷ 0x08 ∷ 0x42 ∷ 0x10 ∷ 0x84 ∷ 0x3C
     ∷ 0x84 ∷ 0x11 ∷ 0x92 ∷ 0x43 ∷ last ∷ []
+
+-- 2026-08: the same with the digits 00 of its system turned into 33; and with the six bits from 31 on turned
+abbrev p1Threes : List ℕ
+p1Threes = set (set (p1 0xEB) 3 0x5B) 4 0x39
+
+abbrev p1Smeared : List ℕ
+p1Smeared = set (set (p1 0xEB) 3 0x59) 4 0xD9
 
 -- P13, its policy's first byte given
 abbrev discovery : ℕ → List ℕ
@@ -831,4 +842,19 @@ examples =
     ∷ lasts-as 3 1 64 0 (ascii "good 3\nagree yes\n")
     ∷ lasts-as 3 2 64 0 (ascii "good 3\nagree no\n")
     ∷ lasts-as 3 1 63 3 []
+    -- 2026-08, "Seven is too many: two neighbouring digits 00 turned into 33": P1, whose system is 0001, and the same with 3301, both conform; a CHUID with it too
+    ∷ fascn-of p1Threes (record { agency = 1234; system = 3301; credential = 5; series = 1; issue = 1; person = 7; category = 1; organisation = 1234; association = 1 })
+    ∷ spans 7 30 (p1 0xEB) p1Threes
+    ∷ conforms 2 (chuidFor p1Threes)
+    -- the first six bits, six in two bytes, the last six, and the last bit alone: none is a FASC-N
+    ∷ spans 6 0 (p1 0xEB) (set (p1 0xEB) 0 0x28)
+    ∷ no-fascn (set (p1 0xEB) 0 0x28)
+    ∷ spans 6 31 (p1 0xEB) p1Smeared
+    ∷ no-fascn p1Smeared
+    ∷ spans 6 194 (p1 0xEB) (p1 0xD4)
+    ∷ no-fascn (p1 0xD4)
+    ∷ spans 1 199 (p1 0xEB) (p1 0xEA)
+    -- nor is it in a CHUID or in a header
+    ∷ breaks 2 (chuidFor p1Smeared) 17 2 (Of 0x30)
+    ∷ breaks 6 (fingersWith p1Smeared (ascii "SIG")) 17 3 (Of 0xBC)
     ∷ []
