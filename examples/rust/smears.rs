@@ -1,13 +1,15 @@
 //! smears WIDTH KIND TODAY FILE: whether a printer's smear of WIDTH neighbouring bits (1 to 16) is seen in the FASC-N of a
-//! container that conforms, a CHUID (kind 2) or a biometric (6, 7 or 12). One or more bits are turned, in each window of so
-//! many of the 200 and in each way, and the FASC-N is decoded and the whole container checked. Printed are the turned bits of
-//! each smear that is not refused, by their numbers from 0 on and never by what they are, and then how many smears were tried
-//! and refused. Up to six bits all are refused, which is proved; of seven some are not. tests/damage runs it.
+//! container that conforms, a CHUID (kind 2) or a biometric (6, 7 or 12). In every window of so many of the 200 bits one or more
+//! are turned, in every way, and each time the FASC-N is decoded and the whole container checked. Printed are the numbers of
+//! the bits that were turned, from 0 on, of each smear that is not refused, and then how many were tried and refused. Up to six
+//! bits all are refused, which is proved; of seven some are not. tests/damage runs it.
 //!
-//! Exit status: 0 if each is refused; 1 if some are not; 2 for bad words, a file that cannot be read, or a container that does
-//! not conform or has no FASC-N.
+//! Which smears are not refused tells something of the digits, which are personal: this is an example for an engineer, and not
+//! the desk.
+//!
+//! Exit status: 0 if each is refused; 1 if some are not; 2 for bad words, a file that cannot be read, a container that does not
+//! conform or has no FASC-N, or an answer other than these.
 mod prosianek;
-use prosianek::Refused;
 use std::io::{self, Write};
 use std::ops::Range;
 use std::process::exit;
@@ -20,7 +22,8 @@ fn stop(why: &str) -> ! {
     exit(2)
 }
 
-/// Where the FASC-N stands, and the tag of its element: the value of 30 of a CHUID, or 59 bytes behind the start of the value of BC.
+/// Where the FASC-N stands, and the tag of its element: it is the value of 30 of a CHUID, and in a biometric it stands in the
+/// value of BC, behind 59 bytes.
 fn fascn_of(kind: u64, today: u64, container: &[u8]) -> (Range<usize>, u64) {
     let (tag, skipped) = match kind {
         2 => (0x30, 0),
@@ -44,14 +47,17 @@ fn turn(fascn: &mut [u8], bits: &[usize]) {
     }
 }
 
-/// Whether a damaged container is refused with 17, in the element that has the tag; and decoding its FASC-N is 17, too, or neither.
+/// Whether the FASC-N is refused with 17, both alone and in the container, there in the element with the tag; or in neither.
 fn is_refused(kind: u64, today: u64, container: &[u8], fascn: &Range<usize>, tag: u64) -> bool {
     let decoded = prosianek::decode(&container[fascn.clone()]).map_err(|r| r.number);
-    match (decoded, prosianek::check(kind, today, container, &mut [])) {
+    let checked = prosianek::check(kind, today, container, &mut []).map_err(|r| (r.number, r.tag));
+    match (decoded, checked) {
         (Ok(_), Ok(_)) => false,
-        (Err(BAD_FASCN), Err(Refused { number: BAD_FASCN, place, tag: Some(named) }))
-            if named == tag && container[place as usize] as u64 == tag && (place as usize) < fascn.start => true,
-        (decode, check) => stop(&format!("decoded as {decode:?}, checked as {check:?}")),
+        (Err(BAD_FASCN), Err((BAD_FASCN, Some(named)))) if named == tag => true,
+        (decoded, checked) => stop(&format!(
+            "decoded with {}, checked with {checked:?}",
+            decoded.err().unwrap_or(0)
+        )),
     }
 }
 
@@ -80,7 +86,7 @@ fn main() {
             turn(&mut container[fascn.clone()], &bits);
         }
     }
-    text += &format!("{tried} smears of {width} bits, {refused} refused\n");
+    text += &format!("{tried} smears within {width} bits, {refused} refused\n");
     if io::stdout().write_all(text.as_bytes()).is_err() {
         stop("not all could be written");
     }
