@@ -219,7 +219,8 @@ uint64_t prosianek_signer(uint64_t kind, uint64_t today, const uint8_t *chuid, s
 //   bytes    the FASC-N, size its bytes: 25, or it is refused.
 //   numbers  lent: agency, system, credential, series, issue, person, category, organisation, association. All nine are 0 on
 //            a refusal.
-// Answers 0, or 17 for anything but 25 conforming bytes.
+// Answers 0, or 17 for anything but 25 conforming bytes. A FASC-N in which one or more bits were changed, all within six
+// neighbouring bits of the 200, is always 17; within seven it may be another good one.
 uint64_t prosianek_fascn_decode(const uint8_t *bytes, size_t size, uint64_t numbers[9]);
 
 // The FASC-N of nine numbers.

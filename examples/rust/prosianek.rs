@@ -379,7 +379,8 @@ pub fn signer(
     }
 }
 
-/// The nine numbers of a FASC-N: agency, system, credential, series, issue, person, category, organisation, association.
+/// The nine numbers of a FASC-N: agency, system, credential, series, issue, person, category, organisation, association. One in
+/// which one or more bits were changed, all within six neighbouring bits of the 200, is always refused.
 pub fn decode(bytes: &[u8]) -> Result<[u64; 9], Refused> {
     let mut numbers = [0; 9];
     let number = unsafe { prosianek_fascn_decode(bytes.as_ptr(), bytes.len(), &mut numbers) };
