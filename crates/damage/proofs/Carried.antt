@@ -5,7 +5,6 @@ use mathlib.Core.Logic.{inl, inr}
 use mathlib.Core.Bool.{false}
 use mathlib.Core.List.{List}
 use native.Mathlib.Omega.{arith}
-use native.Mathlib.Nat.{zero-add}
 use lib.ListN.{length, take, drop, getD}
 use lib.Seq.{take-take, getD-take}
 use Rattle.laws.specs.Bytes.{Bytes}
@@ -14,7 +13,7 @@ use Rattle.laws.specs.Format.{FirstBroken, breaks, judge}
 use Rattle.laws.proofs.Bases.{below-take, below-drop}
 use Rattle.laws.proofs.Cases.{not-so}
 use Rattle.laws.proofs.Formats.{kept-if}
-use Rattle.laws.proofs.Layouts.{part-long, part-part}
+use Rattle.laws.proofs.Layouts.{part-long, part-part, same-part}
 use Rattle.verdicts.specs.Verdicts.{found}
 use Rattle.verdicts.specs.declared.Fault.the-variants.{BadHeader, BadFascn}
 use Rattle.verdicts.specs.declared.Tag.the-variants.{Of}
@@ -24,7 +23,7 @@ use Rattle.kinds.specs.declared.ValueRule.the-variants.{Fascn, Fingers, Face, I
 use Rattle.rules.specs.Rules.{Keeps, Violates}
 use Rattle.fascn.specs.Fascn.{IsFascn}
 use Rattle.fascn.specs.Reading.{isFascn}
-use Rattle.fascn.proofs.Packing.{length-encoded}
+use Rattle.fascn.proofs.Packing.{fascn-long}
 use Rattle.fascn.proofs.Codec.{fascn-exact}
 use Rattle.cbeff.specs.Header as header
 use Rattle.cbeff.specs.Judged.{sizesHold, datesHold, formHolds, opens}
@@ -41,12 +40,8 @@ use Rattle.damage.proofs.Spoiled.{Ruled, kept-rule, spoiled}
 
 -- ---- a CHUID
 
-fascn-long : (f : List ℕ) → IsFascn f → length f ≡ 25
-fascn-long f (n, w) = rw (w .written) (length-encoded n)
-
 chuid-ruled : Ruled 0x30 Fascn (table 2)
-chuid-ruled =
-    (λ e. absurd (omega arith), (λ e. refl, (λ e. absurd (omega arith), (λ e. absurd (omega arith), (λ e. absurd (omega arith), (λ e. absurd (omega arith), (λ e. absurd (omega arith), (λ e. absurd (omega arith), (λ e. absurd (omega arith), tt)))))))))
+chuid-ruled = (tt, (refl, (tt, (tt, (tt, (tt, (tt, (tt, (tt, tt)))))))))
 
 pub chuid-damaged : {today : ℕ} {c d f : List ℕ} {at : ℕ} → Bytes c → (x : Element 2 today c 0x30 f at) → DamagedIn c d f at
     → Named 2 today d (found BadFascn (elementPlace 2 (x .values) (x .conforms .forms) (x .row)) (Of 0x30))
@@ -54,11 +49,6 @@ chuid-damaged {d = d} {f = f} {at = at} b x g =
     let k : IsFascn f = kept-rule b x Fascn chuid-ruled in
     spoiled b x Fascn chuid-ruled d (g .as-long) (g .same-before) BadFascn
     (rw (fascn-long f k) (λ z. damage-refused f (part d at 25) k (g .damaged) z, refl))
-
--- ---- bytes that begin alike
-
-same-inside : (s t : List ℕ) (n at k : ℕ) → at + k ≤ n → take n s ≡ take n t → part s at k ≡ part t at k
-same-inside s t n at k h e = sym (rw zero-add at (part-part s 0 n at k h)) ∙ ap (λ (l : List ℕ). part l at k) e ∙ rw zero-add at (part-part t 0 n at k h)
 
 -- ---- a header: up to the FASC-N it is judged by the first 59 bytes and the length
 
@@ -69,7 +59,7 @@ module _ (v w : List ℕ) (l : length w ≡ length v) (e : take 59 w ≡ take 59
   same-opens : (b : Biometric) → opens b w ≡ opens b v
   unfolding sizesHold datesHold formHolds
   same-opens b =
-      let p : (at k : ℕ) → at + k ≤ 59 → part w at k ≡ part v at k = λ at k h. same-inside w v 59 at k h e in
+      let p : (at k : ℕ) → at + k ≤ 59 → part w at k ≡ part v at k = λ at k h. same-part w v 59 at k h e in
       rw (p 0 1 (omega arith), p 1 1 (omega arith), p 2 4 (omega arith), p 6 2 (omega arith), p 8 2 (omega arith), p 10 2 (omega arith), p 12 8 (omega arith), p 20 8 (omega arith), p 28 8 (omega arith), p 36 3 (omega arith), p 39 1 (omega arith), p 41 18 (omega arith), same-40, l)
 
   fascn-broken : (b : Biometric) → Bytes v → Bytes w → header.IsBiometric b v → (IsFascn (part w 59 25) → ⊥) → FirstBroken (header.header b (length w)) w BadFascn
@@ -97,7 +87,7 @@ module _ {kind today : ℕ} {c d v : List ℕ} {start : ℕ} (b : Bytes c) (g : 
       let p : part w 59 25 ≡ part d (start + 59) 25 = part-part d start (length v) 59 25 n in
       let q : take start d ≡ take start c = sym (take-take start (start + 59) d (omega arith)) ∙ ap (take start) (h .same-before) ∙ take-take start (start + 59) c (omega arith) in
       let a : take 59 w ≡ take 59 (take (length v) (drop start c)) =
-      take-take 59 (length v) (drop start d) (omega arith) ∙ same-inside d c (start + 59) start 59 (omega arith) (h .same-before)
+      take-take 59 (length v) (drop start d) (omega arith) ∙ same-part d c (start + 59) start 59 (omega arith) (h .same-before)
       ∙ sym (take-take 59 (length v) (drop start c) (omega arith)) in
       let f : FirstBroken (header.header m (length w)) w BadFascn =
       fascn-broken v w l (a ∙ ap (take 59) e) m bv (below-take 256 (length v) (drop start d) (below-drop 256 start d g)) k
@@ -106,6 +96,6 @@ module _ {kind today : ℕ} {c d v : List ℕ} {start : ℕ} (b : Bytes c) (g : 
       spoiled b x rule ruled d (h .as-long) q BadFascn (breaks-it w f)
 
   pub header-damaged : IsBiometric kind → Refused
-  header-damaged (inl e) = in-format Fingers header.fingers (rw e (λ z. refl, (λ z. absurd (omega arith), tt))) (λ y. y) (λ w y. y)
-  header-damaged (inr (inl e)) = in-format Face header.face (rw e (λ z. refl, (λ z. absurd (omega arith), tt))) (λ y. y) (λ w y. y)
-  header-damaged (inr (inr e)) = in-format Iris header.iris (rw e (λ z. refl, (λ z. absurd (omega arith), tt))) (λ y. y) (λ w y. y)
+  header-damaged (inl e) = in-format Fingers header.fingers (rw e (refl, (tt, tt))) (λ y. y) (λ w y. y)
+  header-damaged (inr (inl e)) = in-format Face header.face (rw e (refl, (tt, tt))) (λ y. y) (λ w y. y)
+  header-damaged (inr (inr e)) = in-format Iris header.iris (rw e (refl, (tt, tt))) (λ y. y) (λ w y. y)

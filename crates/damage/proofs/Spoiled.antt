@@ -3,12 +3,14 @@
 use Prim.Native.Nat.{ℕ, zero, suc, _+_, _≤_}
 use mathlib.Core.Path.{_≡_, refl, sym, ap, subst, _∙_}
 use mathlib.Core.Logic.{inl, inr}
-use mathlib.Core.Bool.{Bool, true, true≢false}
+use mathlib.Core.Bool.{Bool, true, cond, true≢false}
 use mathlib.Core.Option.{none, some}
 use mathlib.Core.List.{List, [], _∷_, _++_, append-assoc}
 use native.Mathlib.Omega.{arith}
 use lib.ListN.{length, take, drop, getD, length-append, length-drop, take-append-drop}
+use lib.Dec.{eqb}
 use lib.Seq.{take-append-seam, drop-append-seam, take-at}
+use borrow.Author.Tests.{eq-eqb}
 use Rattle.laws.specs.Bytes.{Bytes}
 use Rattle.laws.specs.Layout.{part}
 use Rattle.laws.proofs.Cases.{no-some}
@@ -167,11 +169,11 @@ reached today (r ∷ rs) (some w ∷ vs) (p ∷ ps) a f (suc i) v e = past today
 
 abbrev pub Ruled : ℕ → ValueRule → Table → Type 0
 Ruled t rule [] = Unit {0}
-Ruled t rule (r ∷ rs) = (r .tag ≡ t → r .rule ≡ rule) × Ruled t rule rs
+Ruled t rule (r ∷ rs) = cond (eqb (r .tag) t) (r .rule ≡ rule) (Unit {0}) × Ruled t rule rs
 
 ruled-mid : (t : ℕ) (rule : ValueRule) (before : Table) (r : Entry) (after : Table) → Ruled t rule (before ++ (r ∷ after)) → r .tag ≡ t → r .rule ≡ rule
-ruled-mid t rule [] r after h = h .0
-ruled-mid t rule (x ∷ xs) r after h = ruled-mid t rule xs r after (h .1)
+ruled-mid t rule [] r after h e = rw (eq-eqb (r .tag) t e) at (h .0)
+ruled-mid t rule (x ∷ xs) r after h e = ruled-mid t rule xs r after (h .1) e
 
 -- ---- other bytes from the value on
 
@@ -192,6 +194,10 @@ module _ {kind today : ℕ} {c : List ℕ} {vs : Values} (h : Conforms kind toda
   abbrev head : List ℕ
   head = outerTag kind ∷ (outer ++ (elements ++ (tag ++ form)))
 
+  long-head : length head ≡ 1 + length outer + length elements + length tag + length form
+  long-head = omega (arith, length-append outer (elements ++ (tag ++ form)), length-append elements (tag ++ form), length-append tag form)
+
+  -- and the elements, with other bytes from the value on
   abbrev body : List ℕ → List ℕ
   body y = elements ++ (tag ++ (form ++ y))
 
@@ -265,10 +271,7 @@ module _ {kind today : ℕ} {c : List ℕ} {t : ℕ} {v : List ℕ} {at : ℕ} (
 
   long-before : length before ≡ at
   unfolding before
-  long-before =
-      let h = x .conforms in
-      rw (x .place-is, k .before-is, ← tag-is)
-      (omega (arith, long-body h (x .row) k [], length-append (outer h (x .row) k) (elements h (x .row) k ++ (tag h (x .row) k ++ form h (x .row) k)), length-append (elements h (x .row) k) (tag h (x .row) k ++ form h (x .row) k), length-append (tag h (x .row) k) (form h (x .row) k)))
+  long-before = rw (x .place-is, k .before-is, ← tag-is) (long-head (x .conforms) (x .row) k)
 
   pub spoiled : (d : List ℕ) → length d ≡ length c → take at d ≡ take at c → (f : Fault) → Violates rule today (part d at (length v)) f
       → Named kind today d (found f (elementPlace kind (x .values) (x .conforms .forms) (x .row)) (Of t))

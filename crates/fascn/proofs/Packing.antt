@@ -10,7 +10,7 @@ use Rattle.laws.specs.Digits.{digits, value, groups}
 use Rattle.laws.specs.Bytes.{Below, Bytes}
 use Rattle.laws.proofs.Turns.{rest}
 use Rattle.laws.proofs.Bases.{value-lt, value-digits, digits-read, below-digits, groups-are}
-use Rattle.fascn.specs.Fascn.{values, checked, characters, encoded}
+use Rattle.fascn.specs.Fascn.{values, checked, characters, encoded, IsFascn}
 use Rattle.fascn.specs.Reading.{valueOf, valuesOf}
 use Rattle.fascn.specs.declared.Numbers.{Numbers}
 use Rattle.fascn.proofs.Characters.{below-symbols, values-symbols, symbols-values}
@@ -27,6 +27,9 @@ length-characters n = refl
 pub length-encoded : (n : Numbers) → length (encoded n) ≡ 25
 unfolding encoded digits
 length-encoded n = refl
+
+pub fascn-long : (s : List ℕ) → IsFascn s → length s ≡ 25
+fascn-long s (n, f) = rw (f .written) (length-encoded n)
 
 -- ---- writing, eight characters a group
 

@@ -30,6 +30,10 @@ part-part s at k from n h = go from k (drop at s) h ∙ rw drop-drop
     go (suc from) (suc k) [] h = refl
     go (suc from) (suc k) (x ∷ l) h = go from k l (omega arith)
 
+-- the same part of bytes that begin alike
+pub same-part : (s t : List ℕ) (n at k : ℕ) → at + k ≤ n → take n s ≡ take n t → part s at k ≡ part t at k
+same-part s t n at k h e = sym (rw zero-add at (part-part s 0 n at k h)) ∙ ap (λ (l : List ℕ). part l at k) e ∙ rw zero-add at (part-part t 0 n at k h)
+
 -- what is taken from an offset stands there
 pub front : (s p : List ℕ) (at w : ℕ) → part s at w ≡ p → drop at s ≡ p ++ drop w (drop at s)
 front s p at w e = rw (← e) (sym (take-append-drop w (drop at s)))

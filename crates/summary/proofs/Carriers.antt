@@ -12,8 +12,7 @@ use Rattle.laws.specs.Bytes.{Bytes}
 use Rattle.laws.specs.Layout.{part}
 use Rattle.laws.proofs.Bases.{below-take, below-drop}
 use Rattle.laws.proofs.Cases.{either}
-use Rattle.fascn.specs.Fascn.{IsFascn}
-use Rattle.fascn.proofs.Packing.{length-encoded}
+use Rattle.fascn.proofs.Packing.{fascn-long}
 use Rattle.cbeff.specs.Header.{fingers, face, iris, IsBiometric}
 use Rattle.cbeff.specs.declared.Biometric.{Biometric}
 use Rattle.cbeff.proofs.Exact.{fascn-inside}
@@ -26,9 +25,6 @@ use Rattle.opens.proofs.Openings.{value-keeps}
 use Rattle.opens.proofs.Opens.{row, row-bytes, values}
 use Rattle.summary.specs.Rows.{carried, oneMore, seen, seenIn, counted}
 use Rattle.summary.specs.declared.Tally.{Tally}
-
-pub fascn-long : (s : List ℕ) → IsFascn s → length s ≡ 25
-fascn-long s (n, f) = rw (f .written) (length-encoded n)
 
 module _ (starts ends c : List ℕ) (today : ℕ) where
   -- a CHUID's is its second row
