@@ -2,14 +2,14 @@
 //! that can be seen of it afterwards is compared. tests/second-program builds and runs this, and so do tests/worked-cases and
 //! tests/certificates.
 //!
-//!     compare calls SEED COUNT        the named calls, COUNT made calls, and the sweep
+//!     compare calls SEED COUNT        the named calls, COUNT made calls, and the sweeps of changed bytes and of smears
 //!     compare planted SEED            tries the comparison itself, with planted faults
 //!     compare cases FOLDER FILE..     worked cases; what programs are tried with is put into the folder
 //!     compare certificates FILE..     certificates in DER, as they are and damaged
 
 use second::batch::{Answer, Call, Record, Tally};
 use second::generate::{sweep, Inputs};
-use second::named;
+use second::named::{self, Case, SWEPT_SMEARS};
 use std::process::exit;
 
 mod cases;
@@ -32,12 +32,18 @@ struct Comparison {
     tally: Tally,
     calls: u64,
     differences: u64,
+    /// So many of them are shown.
+    shown: u64,
 }
 
 impl Comparison {
+    fn new(seed: u64, shown: u64) -> Comparison {
+        Comparison { trial: Trial::new(!seed), tally: Tally::default(), calls: 0, differences: 0, shown }
+    }
+
     fn differs(&mut self, text: impl FnOnce(&Trial) -> String) {
         self.differences += 1;
-        if self.differences <= SHOWN {
+        if self.differences <= self.shown {
             println!("{}", text(&self.trial));
         }
     }
@@ -78,21 +84,30 @@ impl Comparison {
     }
 
     /// Both programs have to answer as it is written out.
+    fn compare_case(&mut self, name: &str, (record, expected): &Case) {
+        let answer = record.answer();
+        if answer != *expected {
+            self.differs(|_| {
+                let call = call_text(record);
+                format!("the second program: {}\n  {}\n  expected {:?}\n  got      {:?}", name, call, expected, answer)
+            });
+        }
+        self.compare(record, expected);
+    }
+
     fn compare_named(&mut self) {
         for (name, cases) in named::all() {
-            for (record, expected) in cases {
-                let answer = record.answer();
-                if answer != expected {
-                    self.differs(|_| {
-                        let call = call_text(&record);
-                        format!(
-                            "the second program: {}\n  {}\n  expected {:?}\n  got      {:?}",
-                            name, call, expected, answer
-                        )
-                    });
-                }
-                self.compare(&record, &expected);
-            }
+            cases.iter().for_each(|case| self.compare_case(name, case));
+        }
+    }
+
+    /// Both programs have to refuse each smear of a FASC-N as it is written out. One that is left out counts as a difference.
+    fn compare_smears(&mut self, smears: impl Iterator<Item = Case>) {
+        let before = self.calls;
+        smears.for_each(|case| self.compare_case("a smear of a FASC-N", &case));
+        let smears = self.calls - before;
+        if smears != SWEPT_SMEARS {
+            self.differs(|_| format!("{} smears were tried, of {}", smears, SWEPT_SMEARS));
         }
     }
 }
@@ -100,14 +115,18 @@ impl Comparison {
 /// Compares the calls, says how many, and gives whether there was no difference and every number was answered. One that is not
 /// used counts as a difference, on whichever side it is.
 fn all_same(seed: u64, count: u64) -> bool {
-    let mut comparison = Comparison { trial: Trial::new(!seed), tally: Tally::default(), calls: 0, differences: 0 };
+    let mut comparison = Comparison::new(seed, SHOWN);
     comparison.compare_named();
+    let named = comparison.calls;
     let mut inputs = Inputs::new(seed);
     for _ in 0..count {
         let record = inputs.record();
         comparison.compare(&record, &record.answer());
     }
     sweep(|record| comparison.compare(record, &record.answer()));
+    let changed = comparison.calls - named - count;
+    comparison.compare_smears(named::swept_smears());
+    let smears = comparison.calls - named - count - changed;
 
     let never = comparison.tally.never();
     print!("how often each number was answered, by call:\n{}", comparison.tally);
@@ -118,6 +137,7 @@ fn all_same(seed: u64, count: u64) -> bool {
         0 => "every answer, every byte of every room and all around it is as expected".to_string(),
         differences => format!("{} differ", differences),
     };
+    println!("{} named calls, {} made ones, {} with a byte changed, {} smears", named, count, changed, smears);
     println!("{} calls, seed {}: {}", comparison.calls, seed, outcome);
     comparison.differences == 0 && never.is_empty()
 }

@@ -3,7 +3,8 @@
 //! a sheet, the places that one would give which takes every length for one in fewest bytes, and the numbers of one that judges a
 //! printed date, a facial or an iris record by another rule, or that still answers 8 to a report. So are the counts and the
 //! entries of one that takes points apart wrongly, what one answers that looks for a signer elsewhere, and the lines and states of
-//! one that goes through a folder wrongly. 8 and 9 are planted on both sides too, where nothing differs.
+//! one that goes through a folder wrongly. So are the numbers of one that takes a smeared FASC-N for a good one. 8 and 9 are
+//! planted on both sides too, where nothing differs, and so are FASC-N that conform in the sweep of smears.
 
 use crate::folder::difference;
 use crate::trial::{call_text, native, Fault, Sort, Stretch, Trial, Wrong, LISTS};
@@ -12,12 +13,13 @@ use second::card::{kind_of, length_at, walk};
 use second::generate::{fewest, Inputs, Rng};
 use second::points::MOST_POINTS;
 use second::{dates, faces, faults, fingers, folders, irises, lengths, longest, pairs, points};
-use second::{tag_number, Point, NO_TAG};
+use second::{number, tag_number, Point, NO_TAG};
 use std::collections::BTreeMap;
 use std::ops::Range;
 
 mod folder;
 mod signer;
+mod smears;
 
 /// So many of the made calls of each sort.
 const CALLS: usize = 300;
@@ -116,8 +118,8 @@ fn faults_of_both(stretch: &Stretch) -> Vec<Planted> {
     }
 }
 
-/// The mistakes that are made in a number that is lent, each with the name of that. Those about a signer are [`signer::MISTAKES`], and
-/// those about a folder [`folder::MISTAKES`].
+/// The mistakes that are made in a number that is lent, each with the name of that. Those about a signer are [`signer::MISTAKES`],
+/// those about a folder [`folder::MISTAKES`], and those about a FASC-N [`smears::MISTAKES`].
 const MISTAKES: [(&str, &str); 59] = [
     ("number", "16 for no date"),
     ("number", "23 for no date"),
@@ -266,16 +268,16 @@ fn withdrawn_number(expected: &Answer) -> Vec<(&'static str, u64)> {
     }
 }
 
-/// The numbers of a program that asks for eight characters of a printed date, takes it for a text, or asks for its length later;
-/// and of one that does not look at a facial or an iris record, takes it for a part of the header or for that of another kind, or asks
-/// for it first.
+/// The numbers of a program that asks for eight characters of a printed date, takes it for a text, or asks for its length later; of
+/// one that does not look at a facial or an iris record, takes it for a part of the header or for that of another kind, or asks
+/// for it first; and of one that takes any FASC-N for a good one.
 fn mistaken_numbers(record: &Record, expected: &Answer) -> Vec<(&'static str, u64)> {
     match record.call {
         Call::Report => return withdrawn_number(expected),
         Call::Lists => return mistaken_for_lists(record, expected),
         _ => (),
     }
-    match (record.kind, expected.tag, expected.number) {
+    let mut out = match (record.kind, expected.tag, expected.number) {
         (4, Some(0x04), 19) => vec![("16 for no date", 16), ("23 for no date", 23)],
         (4, Some(0x04), 16) => vec![("19 for a length", 19)],
         (7, Some(0xBC), 26) => vec![("0 for no record", 0), ("21 for no record", 21), ("22 for no record", 22)],
@@ -283,7 +285,11 @@ fn mistaken_numbers(record: &Record, expected: &Answer) -> Vec<(&'static str, u6
         (12, Some(0xBC), 27) => vec![("0 for no record", 0), ("21 for no record", 21), ("26 for no record", 26)],
         (12, Some(0xBC), 17 | 21) => vec![("27 for a header", 27)],
         _ => Vec::new(),
+    };
+    if expected.number == number::FASCN {
+        out.push(smears::TAKEN);
     }
+    out
 }
 
 /// The numbers of a program that does not look at a list's length, looks at it first, or asks for an entry more than it needs.
@@ -383,11 +389,13 @@ fn mistaken_entries(record: &Record, expected: &Answer) -> Vec<Mistake> {
     out
 }
 
-/// All mistakes in a call: numbers, tags, places and offsets, counts and entries, and what is wrong with a signer or a folder.
+/// All mistakes in a call: numbers, tags, places and offsets, counts and entries, and what is wrong with a signer, a folder or a
+/// FASC-N alone.
 fn mistakes(record: &Record, expected: &Answer) -> Vec<Mistake> {
     let mut out = match record.call {
         Call::Signer => signer::mistakes(record, expected),
         Call::Folder | Call::Row | Call::Last => folder::mistakes(record, expected),
+        Call::FascnDecode => smears::mistakes(expected),
         _ => mistakes_of_verdict(record, expected),
     };
     if record.call == Call::Lists {
@@ -520,8 +528,8 @@ impl Trying {
             println!("  {}: {}", what, texts.join(" "));
         }
         let mistaken = |name, how| self.planted.get(&(how, name)).copied().unwrap_or_default();
-        let mistakes = [&MISTAKES[..], &signer::MISTAKES, &folder::MISTAKES].concat();
-        let numbers = ["number", "short", "tag", "place", "which", "offset", "length", "first", "second"];
+        let mistakes = [&MISTAKES[..], &signer::MISTAKES, &folder::MISTAKES, &smears::MISTAKES].concat();
+        let numbers = ["number", "short", "tag", "place", "which", "offset", "length", "first", "second", "numbers"];
         let of_folders = ["room", "good", "agreement", "fascn", "summary"];
         for which in numbers.into_iter().chain(LISTS).chain(of_folders) {
             let here = mistakes.iter().filter(|(name, _)| *name == which);
@@ -548,6 +556,7 @@ pub fn all_seen(seed: u64) -> bool {
         longest::records,
         pairs::records,
         folders::records,
+        second::smears::records,
     ];
     let with_faults: Vec<Record> = edges.iter().flat_map(|records| records()).collect();
     let made = calls(seed);
@@ -561,9 +570,9 @@ pub fn all_seen(seed: u64) -> bool {
     }
     println!(
         "faults planted in {} calls of every sort, and mistakes in {} on dates, faces, fingers, irises, faults, longer forms, \
-         long reports, signers and folders, one at a time:",
+         long reports, signers, folders and smears, one at a time:",
         made.len(),
         with_faults.len()
     );
-    trying.judge()
+    trying.judge() && smears::are_judged(seed)
 }

@@ -1,7 +1,7 @@
 //! Signature blocks for the calls that ask for a signer: CMS SignedData in DER, as they should be, damaged, and on both sides of
 //! every border.
 
-use crate::generate::{damage_bytes, Rng};
+use crate::generate::{damage_bytes, turn_bit, Rng};
 use crate::samples::{P256, RSA};
 use crate::signer::{BLOCK_LEVELS, ID_SIGNED_DATA};
 use crate::trees::{self, Tree};
@@ -286,7 +286,7 @@ fn types() -> Vec<Vec<u8>> {
     let mut types: Vec<Vec<u8>> = (0..=9).map(|length| right[..length].to_vec()).collect();
     for at in 0..72 {
         let mut other = right;
-        other[at / 8] ^= 0x80 >> (at % 8);
+        turn_bit(&mut other, at);
         types.push(other.to_vec());
     }
     for byte in [0x00, 0x01, 0x02, 0x2A, 0x80] {

@@ -7,7 +7,7 @@ use crate::folder::{entries, Entry, Seen, COUNT_BYTES, HEAD_BYTES, MOST_CONTAINE
 use crate::generate::{any_fill, any_kind, conforming_of_size, conforming_on, endless_kinds, fascn, flip_bit};
 use crate::generate::{good_or_damaged, plain, small, today, Card, Form, Forms, Rng};
 use crate::generate::{EXAMPLE_DAY, EXAMPLE_DISCOVERY, EXAMPLE_FASCN};
-use crate::pairs::{each_other_digit, with_another_digit, with_any_other_digit};
+use crate::pairs::{each_other_digit, nearly_alike, with_another_digit};
 use crate::samples::{self, chuid, signed, with_fascn};
 use crate::signer::{CHUID_KIND, KINDS as BIOMETRIC_KINDS};
 use crate::values::FASCN_BYTES;
@@ -47,11 +47,18 @@ pub fn last(good: u64, agreement: u64) -> Record {
 /// The kinds whose FASC-N have to agree.
 pub const FASCN_KINDS: [u64; 4] = [CHUID_KIND, BIOMETRIC_KINDS[0], BIOMETRIC_KINDS[1], BIOMETRIC_KINDS[2]];
 
-/// The smallest container of one of these kinds, or nearly so, with this FASC-N.
+/// The smallest card of one of these kinds, or nearly so, with this FASC-N.
+pub fn card_holding(kind: u64, fascn: &[u8]) -> Card {
+    if kind == CHUID_KIND {
+        chuid(fascn, b"20300131", &[])
+    } else {
+        with_fascn(signed(kind, b"SIG"), fascn)
+    }
+}
+
+/// Its container.
 pub fn holding(kind: u64, fascn: &[u8]) -> Contained {
-    let card =
-        if kind == CHUID_KIND { chuid(fascn, b"20300131", &[]) } else { with_fascn(signed(kind, b"SIG"), fascn) };
-    (kind as u8, card.container())
+    (kind as u8, card_holding(kind, fascn).container())
 }
 
 /// The container with another last byte, which no kind of container permits.
@@ -110,10 +117,10 @@ fn very_many(rng: &mut Rng) -> Vec<Contained> {
     (0..count).map(|_| least[rng.size(0, least.len() - 1)].clone()).collect()
 }
 
-/// Two FASC-N, mostly with one digit that differs.
+/// Two FASC-N, mostly nearly alike.
 fn two_fascns(rng: &mut Rng) -> [Vec<u8>; 2] {
     let own = fascn(rng);
-    let other = if rng.one_in(4) { fascn(rng) } else { with_any_other_digit(rng, &own) };
+    let other = if rng.one_in(4) { fascn(rng) } else { nearly_alike(rng, &own) };
     [own, other]
 }
 

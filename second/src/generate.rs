@@ -4,7 +4,7 @@ use crate::batch::{Call, Record, BYTES_MAX, ROOM_MAX};
 use crate::card::{self, all_kinds, Rule, LAST_KIND, ROWS_MAX};
 use crate::folder::Seen;
 use crate::values::{self, fascn_encode, fascn_pack, fascn_values, is_date, Format, FACE, FINGERS, IRIS};
-use crate::{dates, faces, faults, fingers, folders, irises, lengths, longest, pairs, trees};
+use crate::{dates, faces, faults, fingers, folders, irises, lengths, longest, pairs, smears, trees};
 use crate::{CONTAINER_MAX, NO_TAG, REPORT_MAX, SHEET_ROOM};
 
 /// splitmix64.
@@ -587,11 +587,19 @@ fn fascn_twin(rng: &mut Rng, bytes: &[u8]) -> Vec<u8> {
 pub fn flip_bit(rng: &mut Rng, bytes: &mut [u8]) {
     if !bytes.is_empty() {
         let at = rng.below(bytes.len() as u64 * 8) as usize;
-        bytes[at / 8] ^= 0x80 >> (at % 8);
+        turn_bit(bytes, at);
     }
 }
 
+/// Turns one bit. They are counted in the order of the bytes, the most significant one of each byte first.
+pub fn turn_bit(bytes: &mut [u8], at: usize) {
+    bytes[at / 8] ^= 0x80 >> (at % 8);
+}
+
 fn damage_fascn(rng: &mut Rng, bytes: &mut [u8]) {
+    if rng.one_in(8) {
+        return smears::damage(rng, bytes);
+    }
     let numbers = fascn_numbers(rng);
     let mut characters = fascn_values(&numbers);
     match rng.below(10) {
@@ -611,8 +619,7 @@ fn damage_fascn(rng: &mut Rng, bytes: &mut [u8]) {
             // Two bits of one character, so that its parity stays good.
             let character = rng.size(0, 39);
             for _ in 0..2 {
-                let at = 5 * character + rng.size(0, 4);
-                bytes[at / 8] ^= 0x80 >> (at % 8);
+                turn_bit(bytes, 5 * character + rng.size(0, 4));
             }
         }
         _ => {
@@ -1962,6 +1969,7 @@ fn fixed_records() -> Vec<Record> {
     out.extend(longest::records());
     out.extend(pairs::records());
     out.extend(folders::records());
+    out.extend(smears::records());
     out
 }
 

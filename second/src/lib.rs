@@ -26,6 +26,7 @@ pub mod records;
 pub mod report;
 pub mod samples;
 pub mod signer;
+pub mod smears;
 pub mod trees;
 pub mod values;
 

@@ -18,7 +18,10 @@ mod lengths;
 mod longest;
 mod points;
 mod signer;
+mod smears;
 mod tags;
+
+pub use smears::{swept as swept_smears, SWEPT as SWEPT_SMEARS};
 
 /// A call and its answer.
 pub type Case = (Record, Answer);
@@ -29,6 +32,7 @@ pub type Group = (&'static str, Vec<Case>);
 pub fn all() -> Vec<Group> {
     [
         fascns(),
+        smears::all(),
         biometrics(),
         certificates(),
         limits(),

@@ -8,6 +8,7 @@ use crate::generate::{any_container, any_kind, conforming_on, flip_bit, good_or_
 use crate::generate::{Card, Form, Forms, Rng, EXAMPLE_DAY, EXAMPLE_FASCN, LONGEST_FORM};
 use crate::samples::{self, chuid, signed, with_block, with_fascn, wrong_fascn, UUID};
 use crate::signer::{CHUID_KIND, KINDS};
+use crate::smears::with_two_other_digits;
 use crate::values::{fascn_decode, fascn_encode, FASCN_BYTES, HEADER_BYTES, HEADER_FASCN};
 use crate::{faults, trees, CONTAINER_MAX};
 
@@ -75,6 +76,15 @@ pub fn each_other_digit(fascn: &[u8]) -> Vec<Vec<u8>> {
     places.flat_map(|(which, place)| [1, 5, 9].map(|more| with_another_digit(fascn, which, place, more))).collect()
 }
 
+/// A FASC-N that differs in one digit, or at times in two that keep both parities and the check.
+pub fn nearly_alike(rng: &mut Rng, fascn: &[u8]) -> Vec<u8> {
+    if rng.one_in(8) {
+        with_two_other_digits(rng, fascn).to_vec()
+    } else {
+        with_any_other_digit(rng, fascn)
+    }
+}
+
 /// How many digits the nine numbers have.
 const DIGITS: [u32; 9] = [4, 4, 6, 1, 1, 10, 1, 4, 1];
 
@@ -126,12 +136,12 @@ fn any_block(rng: &mut Rng, none_in: u64) -> Block {
     }
 }
 
-/// A FASC-N that is not the pair's: mostly in one digit only.
+/// A FASC-N that is not the pair's: mostly nearly alike.
 fn another_fascn(rng: &mut Rng, pair: &Pair) -> Vec<u8> {
     if rng.one_in(8) {
         return EXAMPLE_FASCN.to_vec();
     }
-    with_any_other_digit(rng, pair.chuid.rows[1].as_ref().expect("a CHUID has a FASC-N"))
+    nearly_alike(rng, pair.chuid.rows[1].as_ref().expect("a CHUID has a FASC-N"))
 }
 
 /// A pair of which one container, or each, has about as many bytes as there may be. The long block has a long certificate, or none.

@@ -232,7 +232,7 @@ pub fn certificate(kind: u64, certificate: &[u8], information: u8, extra: Option
     card(kind, &[Some(certificate), Some(&[information]), extra, Some(&[])])
 }
 
-/// The FASC-N of 01's example P2: every character has its parity, and the check character is wrong.
+/// The FASC-N of 01's example P2: the last bit is another, which is the parity of the check character.
 pub fn wrong_fascn() -> [u8; 25] {
     let mut fascn = EXAMPLE_FASCN;
     fascn[24] = 0xEA;

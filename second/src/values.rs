@@ -17,6 +17,11 @@ const END: u8 = 15;
 
 const BAD: u8 = 0x80;
 
+/// Whether a digit stands at this one of the forty characters.
+pub fn is_digit_place(at: usize) -> bool {
+    FIELDS.iter().any(|&(first, digits)| (first..first + digits).contains(&at))
+}
+
 /// The value of each five-bit character, or `BAD` where the number of ones is even.
 const CHARACTERS: [u8; 32] = character_table();
 

@@ -158,7 +158,8 @@ fn made_ones_are_no_longer() {
 fn rooms_of_long_reports() {
     let mut inputs = Inputs::made(13);
     let mut seen = BTreeSet::new();
-    for record in (0..150_000).map(|_| inputs.record()).filter(|record| record.call == Call::Report) {
+    // the rarest of them is made twice in 150,000 calls
+    for record in (0..600_000).map(|_| inputs.record()).filter(|record| record.call == Call::Report) {
         let answer = Record { room: REPORT_MAX, ..record.clone() }.answer();
         if answer.number == number::DONE {
             let short_by = LONGEST[record.kind as usize - 1] - answer.length as usize;
