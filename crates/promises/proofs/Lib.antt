@@ -8,5 +8,3 @@ pub mod Demand3
 pub mod AtTheDesk
 pub mod Damage
 pub mod Settled
-pub mod Examples
-pub mod Longest

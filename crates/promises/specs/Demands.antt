@@ -1,8 +1,8 @@
 -- The user's three demands, in the user's order and words, as statements about the thirteen calls of the door (`Checks`, `Writes`, `Views`, `Reports`, `Lists`,
 -- `Points`, `Signers`, `Decodes`, `Encodes`, `FolderSteps`, `FolderEnds`, `Rows`, `Lasts`: what a call answers and leaves; `Judges`: the verdict that a check gives). Each is a record of statements, and
--- `proofs/` has the theorem for each: `demand-1`, `demand-2`, `demand-3`; `at-the-desk`, the third of what the desk program prints; `no-long-report`,
--- `as-a-list`, `whose-certificate`, `the-orders-folder` and `damage-refused`, what 2026-12, 2026-10, 2026-11, 2026-14 and 2026-08 ask for; `settled` and
--- `settled-for-c`, that no answer is left open.
+-- `proofs/` has the theorem for each: `demand-1`, `demand-2`, `demand-3`; `at-the-desk`, the third of what the desk program prints; `as-a-list`,
+-- `whose-certificate`, `the-orders-folder` and `damage-refused`, what 2026-10, 2026-11, 2026-14 and 2026-08 ask for; `settled` and `settled-for-c`, that no
+-- answer is left open. `no-long-report`, what 2026-12 asks for, stands in the crate `examples` beside the table of examples, since both are computed.
 --
 -- A room is `before` when it is lent and `after` when it comes back. `Bytes c` says that each number of c is below 256, as it is in every slice that a
 -- program can give.

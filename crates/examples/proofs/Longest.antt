@@ -54,9 +54,9 @@ use Rattle.report.specs.Longest.{longestOf}
 use Rattle.report.proofs.Answers.{report-0, report-1, report-2, report-3, report-4}
 use Rattle.report.proofs.Bound.{report-length, under-room}
 use Rattle.prosianek.specs.Calls.{Reports}
 use Rattle.promises.specs.Demands.{InTurn, no-kind, no-date, small-room, too-large, reported, Numbered, NoLongReport}
-use Rattle.promises.specs.Examples.{today, longestCard}
-use Rattle.promises.proofs.Examples.{areBytes, are-bytes}
+use Rattle.examples.specs.Examples.{today, longestCard}
+use Rattle.examples.proofs.Examples.{areBytes, are-bytes}
 
 -- ---- what is answered
 

@@ -80,10 +80,10 @@ use Rattle.summary.specs.declared.Tally.{Tally}
 use Rattle.summary.proofs.Laws.{last-0, last-3, whole-long}
 use Rattle.summary.proofs.Agreeing.{agrees}
 use Rattle.prosianek.proofs.Checking.{answer, output, only}
 use Rattle.promises.specs.Demands.{sizes}
 use Rattle.promises.proofs.Listing.{Told, computed, computed-says}
 use Rattle.promises.proofs.Signing.{as-said}
-use Rattle.promises.specs.Examples.{Example, fascn-of, no-fascn, spans, spells, no-length, date, no-date, kept, late, printed-date, no-printed-date, conforms, breaks, checks, writes, reports, fills-lists, fills-points, signs, folder-of, no-folder, sums-up, rows-as, lasts-as, today, Holds, All, examples}
+use Rattle.examples.specs.Examples.{Example, fascn-of, no-fascn, spans, spells, no-length, date, no-date, kept, late, printed-date, no-printed-date, conforms, breaks, checks, writes, reports, fills-lists, fills-points, signs, folder-of, no-folder, sums-up, rows-as, lasts-as, today, Holds, All, examples}
 
 -- ---- each row as a test
 
