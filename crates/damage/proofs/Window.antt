@@ -1,6 +1,6 @@
 -- Two neighbouring characters, by computation: values with the same exclusive or, whose characters have the same bits before and after a window of six of the
--- ten, are the same. A change that the check does not see changes the same bits of both values: the first of them in the one character is at least seven
--- bits from the last of them in the other or, where it is the only one, from the parity there. Assumes nothing.
+-- ten, are the same. A change that the check does not see changes the same bits of both values: from the first of them in the one character to the last of them
+-- in the other are seven bits or more; and where it is one bit alone, from it to the parity there, which is changed too. Assumes nothing.
 use mathlib.Core.Path.{_≡_, refl}
 use mathlib.Core.Bool.{Bool, true, cond, _&&_}
 use mathlib.Core.List.{List}

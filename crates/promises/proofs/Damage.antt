@@ -16,7 +16,7 @@ use Rattle.damage.specs.Damage.{bits}
 use Rattle.damage.proofs.Bits.{length-bits}
 use Rattle.damage.proofs.Refused.{damage-refused as none}
 use Rattle.damage.proofs.Carried.{chuid-damaged, header-damaged}
-use Rattle.damage.proofs.Seven.{seven-too-many}
+use Rattle.damage.proofs.Seven.{zeros-to-threes, seven-too-many}
 use Rattle.prosianek.specs.Calls.{Checks}
 use Rattle.prosianek.proofs.Checking.{judged}
 use Rattle.promises.specs.Demands.{DamageRefused}
@@ -40,5 +40,6 @@ damage-refused = record {
   decode-refuses = λ s t f d r h. demand-1 .decode-clean t r h (λ z. none s t f d (demand-2 .decodes-when t r h .0 z));
   chuid-refused = λ today c d f at b g x h before after r k. verdict-of 2 today d before after r g k _ _ _ (chuid-damaged b x h);
   header-refused = λ kind today m c d v at b g x h before after r k. verdict-of kind today d before after r g k _ _ _ (header-damaged b g x h m);
+  zeros-to-threes = zeros-to-threes;
   seven-too-many = seven-too-many;
 }

@@ -51,7 +51,7 @@ use Rattle.der.specs.Der.{Item, derBytes}
 use Rattle.blocks.specs.Block as block
 use Rattle.blocks.specs.Block.{SignedData, IsBlock}
 use Rattle.signer.specs.Signer.{Element, Chuid, IsBiometric, Biometric, NoBlock, HoldsNone, Holding}
-use Rattle.damage.specs.Damage.{bits, six, Damaged, DamagedIn}
+use Rattle.damage.specs.Damage.{bits, six, Damaged, ZerosToThrees, DamagedIn}
 use Rattle.pieces.specs.Folder.{Entry, AreEntries, IsFolder}
 use Rattle.pieces.specs.Pieces.{first}
 use Rattle.pieces.specs.declared.State.{State}
@@ -549,7 +549,8 @@ pub record DamageRefused : Type 0 where
   pub header-refused : (kind today : ℕ) → IsBiometric kind → (c d v : List ℕ) (at : ℕ) → Bytes c → Bytes d → (x : Element kind today c 0xBC v at)
       → DamagedIn c d (part v 59 25) (at + 59) → (before after : List ℕ) (r : Checked) → Checks kind today d before after r
       → r .verdict ≡ record { number = numberOf BadFascn; place = elementPlace kind (x .values) (x .conforms .forms) (x .row); tag = Of 0xBC }
-  -- "Seven is too many"
+  -- "Seven is too many: two neighbouring digits 00 turned into 33": wherever they stand, one FASC-N is the other damaged within seven bits; and there are such
+  pub zeros-to-threes : (s t : List ℕ) (n m : Numbers) → IsFascnOf s n → IsFascnOf t m → ZerosToThrees n m → Damaged 7 s t
   pub seven-too-many : (s : List ℕ) × (t : List ℕ) × IsFascn s × IsFascn t × Damaged 7 s t
 
 -- ---- "For each public call the contract determines number, place, returned part and each byte of lent room, on every input and every refusal. Any two
