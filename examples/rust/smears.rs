@@ -36,9 +36,12 @@ fn fascn_of(kind: u64, today: u64, container: &[u8]) -> (Range<usize>, u64) {
     }
 }
 
-/// The numbers of the bits that are turned in the window that begins at a bit, in one way.
-fn turned(first: usize, width: usize, way: u32) -> Vec<usize> {
-    (0..width).filter(|k| way >> k & 1 == 1).map(|k| first + k).collect()
+/// The numbers of the bits that a smear turns: for every window of so many bits, every way to turn one or more of them.
+fn smears(width: usize) -> impl Iterator<Item = Vec<usize>> {
+    let turned = move |first: usize, way: u32| {
+        (0..width).filter(|k| way >> k & 1 == 1).map(|k| first + k).collect()
+    };
+    (0..=BITS - width).flat_map(move |first| (1..1 << width).map(move |way| turned(first, way)))
 }
 
 fn turn(fascn: &mut [u8], bits: &[usize]) {
@@ -73,18 +76,15 @@ fn main() {
     let (fascn, tag) = fascn_of(kind, today, &container);
 
     let (mut tried, mut refused, mut text) = (0, 0, String::new());
-    for first in 0..=BITS - width {
-        for way in 1..1 << width {
-            let bits = turned(first, width, way);
-            turn(&mut container[fascn.clone()], &bits);
-            tried += 1;
-            if is_refused(kind, today, &container, &fascn, tag) {
-                refused += 1;
-            } else {
-                text += &format!("not refused: bits {bits:?}\n");
-            }
-            turn(&mut container[fascn.clone()], &bits);
+    for bits in smears(width) {
+        turn(&mut container[fascn.clone()], &bits);
+        tried += 1;
+        if is_refused(kind, today, &container, &fascn, tag) {
+            refused += 1;
+        } else {
+            text += &format!("not refused: bits {bits:?}\n");
         }
+        turn(&mut container[fascn.clone()], &bits);
     }
     text += &format!("{tried} smears within {width} bits, {refused} refused\n");
     if io::stdout().write_all(text.as_bytes()).is_err() {
