@@ -32,7 +32,7 @@ use Rattle.container.proofs.Faults.{length-read, none-read, faulty-exac
 use Rattle.container.proofs.Promise.{kind-exact, exact, named}
 
 -- a mandatory row is not the optional one
-later : (r : Entry) (rs : Table) → r .optional ≡ true → Owed (r ∷ rs) → Owed rs
+pub later : (r : Entry) (rs : Table) → r .optional ≡ true → Owed (r ∷ rs) → Owed rs
 later r rs o (inl n) = absurd (true≢false (sym o ∙ n))
 later r rs o (inr h) = h
 

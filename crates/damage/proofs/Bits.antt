@@ -14,9 +14,12 @@ use Rattle.fascn.specs.declared.Numbers.{Numbers}
 use Rattle.fascn.proofs.Packing.{below-characters, length-characters, value-encoded, length-encoded}
 use Rattle.damage.specs.Damage.{bits}
 
--- the bits of values' characters
+-- the five bits of a value's character, and those of values' characters one after the other
+abbrev pub five : ℕ → List ℕ
+five v = digits 2 5 (symbol v)
+
 abbrev pub run : List ℕ → List ℕ
-run vs = joined (map (λ v. digits 2 5 (symbol v)) vs)
+run vs = joined (map five vs)
 
 characters-run : (vs : List ℕ) → joined (map (digits 2 5) (map symbol vs)) ≡ run vs
 characters-run [] = refl

@@ -1,12 +1,12 @@
--- Damage in the FASC-N of a CHUID, and in that of a biometric's header, is the first broken rule of the container: 17, at the element. Assumes nothing.
+-- Damage in the FASC-N that a container carries, in a CHUID or in a biometric's header, is the first broken rule of the container: 17, at the element. Assumes nothing.
 use Prim.Native.Nat.{ℕ, _+_, _≤_}
 use mathlib.Core.Path.{_≡_, refl, sym, ap, _∙_}
 use mathlib.Core.Logic.{inl, inr}
 use mathlib.Core.Bool.{false}
-use mathlib.Core.List.{List}
+use mathlib.Core.List.{List, _++_}
 use native.Mathlib.Omega.{arith}
-use lib.ListN.{length, take, drop, getD}
-use lib.Seq.{take-take, getD-take}
+use lib.ListN.{length, take, drop, getD, length-append, length-drop}
+use lib.Seq.{length-take-le, take-take, getD-take, take-at, drop-at}
 use Rattle.laws.specs.Bytes.{Bytes}
 use Rattle.laws.specs.Layout.{part}
 use Rattle.laws.specs.Format.{FirstBroken, breaks, judge}
@@ -34,9 +34,22 @@ use Rattle.container.specs.InOrder.{Named}
 use Rattle.views.specs.Views.{elementPlace}
 use Rattle.signer.specs.Signer.{Element, IsBiometric}
 use Rattle.signer.proofs.Elements.{within}
-use Rattle.damage.specs.Damage.{DamagedIn}
+use Rattle.damage.specs.Damage.{six, Damaged, DamagedIn}
 use Rattle.damage.proofs.Refused.{damage-refused}
 use Rattle.damage.proofs.Spoiled.{Ruled, kept-rule, spoiled}
+
+-- ---- the damaged FASC-N in the place of the other
+
+pub put-in-place : (c f t : List ℕ) (at : ℕ) → at + 25 ≤ length c → Damaged six f t → DamagedIn c (take at c ++ (t ++ drop (at + 25) c)) f at
+put-in-place c f t at h d =
+    let q : List ℕ = t ++ drop (at + 25) c in
+    let n : length (take at c) ≡ at = length-take-le at c (omega arith) in
+    let p : part (take at c ++ q) at 25 ≡ t = rw (drop-at (take at c) q at n) (take-at t (drop (at + 25) c) 25 (d .long)) in
+    record {
+      as-long = omega (arith, h, n, d .long, length-append (take at c) q, length-append t (drop (at + 25) c), length-drop (at + 25) c);
+      same-before = take-at (take at c) q at n;
+      damaged = rw p d;
+    }
 
 -- ---- a CHUID
 

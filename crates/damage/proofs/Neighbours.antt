@@ -15,8 +15,8 @@ use Rattle.fascn.specs.Fascn.{symbol, exclusive}
 use Rattle.fascn.specs.Reading.{valueOf}
 use Rattle.fascn.proofs.Characters.{symbol-lt, value-symbol}
 use Rattle.damage.specs.Damage.{six}
-use Rattle.damage.proofs.Bits.{run}
-use Rattle.damage.proofs.Window.{five, before, behind, same-first}
+use Rattle.damage.proofs.Bits.{five, run}
+use Rattle.damage.proofs.Window.{before, behind, same-first}
 
 -- ---- the same bits are the same values
 

@@ -5,7 +5,6 @@ use mathlib.Core.Logic.{_⊎_, inl, inr}
 use mathlib.Core.List.{List, [], _∷_, _++_, append-assoc}
 use Prim.Native.Nat.{ℕ, _+_, _-_, _<_, _≤_}
 use native.Mathlib.Omega.{arith}
-use lib.Bits.{bitXor}
 use lib.Count.{ones}
 use lib.ListN.{length, drop, getD, length-append, List·getD-append}
 use lib.Seq.{getD-drop, getD-append-seam, getD-append-add}
@@ -13,19 +12,13 @@ use Rattle.laws.specs.Digits.{digits}
 use Rattle.laws.proofs.Xor.{xor-back}
 use Rattle.fascn.specs.Fascn.{exclusive, values, checked, encoded, IsFascnOf, IsFascn}
 use Rattle.fascn.specs.declared.Numbers.{Numbers}
-use Rattle.fascn.proofs.Framing.{range-exact}
+use Rattle.fascn.proofs.Framing.{exclusive-append, range-exact}
 use Rattle.fascn.proofs.Packing.{length-encoded}
 use Rattle.fascn.proofs.Examples.{p1-numbers}
 use Rattle.damage.specs.Damage.{bits, bit, Damaged, ZerosToThrees}
-use Rattle.damage.proofs.Bits.{run, bytes-encoded, bits-run, length-bits}
-use Rattle.damage.proofs.Window.{five}
+use Rattle.damage.proofs.Bits.{five, run, bytes-encoded, bits-run, length-bits}
 
 -- ---- the check stays
-
-exclusive-append : (c : ℕ) (xs ys : List ℕ) → exclusive c (xs ++ ys) ≡ exclusive (exclusive c xs) ys
-unfolding exclusive
-exclusive-append c [] ys = refl
-exclusive-append c (x ∷ xs) ys = exclusive-append (bitXor c x) xs ys
 
 -- the same value twice is as none
 twice : (d : ℕ) (xs ys : List ℕ) → exclusive 0 (xs ++ (d ∷ d ∷ ys)) ≡ exclusive (exclusive 0 xs) ys

@@ -13,12 +13,8 @@ use borrow.Author.Tests.{eqb-true}
 use Rattle.laws.specs.Digits.{digits}
 use Rattle.laws.specs.Tests.{allBelow, same}
 use Rattle.laws.proofs.Cases.{at-each, implied, and-is, same-refl}
-use Rattle.fascn.specs.Fascn.{symbol}
 use Rattle.damage.specs.Damage.{six}
-
--- the five bits of a value's character
-abbrev pub five : ℕ → List ℕ
-five v = digits 2 5 (symbol v)
+use Rattle.damage.proofs.Bits.{five}
 
 -- the window begins at bit o of the first character: the bits before it, and those of the second behind it
 abbrev pub before : ℕ → ℕ → List ℕ

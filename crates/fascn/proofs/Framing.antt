@@ -79,10 +79,14 @@ pub exclusive-next : (c k : ℕ) (v : List ℕ) → k < length v → exclusive c
 unfolding exclusive
 exclusive-next c k v h = rw (add-one, drop-cons v k 0)
 
-pub exclusive-last : (c : ℕ) (vs : List ℕ) (x : ℕ) → exclusive c (vs ++ (x ∷ [])) ≡ bitXor (exclusive c vs) x
+pub exclusive-append : (c : ℕ) (vs ws : List ℕ) → exclusive c (vs ++ ws) ≡ exclusive (exclusive c vs) ws
 unfolding exclusive
-exclusive-last c [] x = refl
-exclusive-last c (v ∷ vs) x = exclusive-last (bitXor c v) vs x
+exclusive-append c [] ws = refl
+exclusive-append c (v ∷ vs) ws = exclusive-append (bitXor c v) vs ws
+
+exclusive-last : (c : ℕ) (vs : List ℕ) (x : ℕ) → exclusive c (vs ++ (x ∷ [])) ≡ bitXor (exclusive c vs) x
+unfolding exclusive
+exclusive-last c vs x = exclusive-append c vs (x ∷ [])
 
 below-exclusive : (c : ℕ) (vs : List ℕ) → c < 16 → Below 16 vs → exclusive c vs < 16
 unfolding exclusive

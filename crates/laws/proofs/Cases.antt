@@ -44,6 +44,11 @@ not-so false h = refl
 pub no-some : {A : Type 0} {x : A} → none ≡ some x → ⊥
 no-some e = let z : _≡_ {A = ℕ} 0 1 = cc in omega arith
 
+-- nor has an empty list one
+pub none-at : {A : Type 0} {x : A} (i : ℕ) → getD [] i none ≡ some x → ⊥
+none-at zero e = no-some e
+none-at (suc i) e = no-some e
+
 -- ---- in a row
 
 pub and-true : (a b : Bool) → (a && b) ≡ true → (a ≡ true) × (b ≡ true)

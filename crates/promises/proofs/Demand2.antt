@@ -57,12 +57,16 @@ use Rattle.promises.proofs.Rooms.{gave}
 
 -- ---- the first broken rule
 
+-- what is named is the whole verdict
+pub named-verdict : (kind today : ℕ) (c : List ℕ) → Bytes c → (r : Verdict) → r ≡ verdict kind today c → (f : Fault) (place : ℕ) (tag : Tag)
+    → Named kind today c (found f place tag) → r ≡ record { number = numberOf f; place = place; tag = tag }
+unfolding outcome
+named-verdict kind today c b r a f place tag h = a ∙ ap (λ (x : Parsed (List ℕ)). verdictOf (outcomeOf x)) (named-back kind today (found f place tag) c b h)
+
 only-first : (kind today : ℕ) (c : List ℕ) → Bytes c → (r : Verdict) → r ≡ verdict kind today c → (f : Fault) (place : ℕ) (tag : Tag)
     → Named kind today c (found f place tag) → (r .number ≡ numberOf f) × (r .place ≡ place) × (r .tag ≡ tag)
-unfolding outcome
 only-first kind today c b r a f place tag h =
-    let q : r ≡ record { number = numberOf f; place = place; tag = tag } =
-    a ∙ ap (λ (x : Parsed (List ℕ)). verdictOf (outcomeOf x)) (named-back kind today (found f place tag) c b h) in
+    let q = named-verdict kind today c b r a f place tag h in
     (ap (λ (v : Verdict). v .number) q, ap (λ (v : Verdict). v .place) q, ap (λ (v : Verdict). v .tag) q)
 
 -- ---- its tag

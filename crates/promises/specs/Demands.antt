@@ -549,6 +549,8 @@ pub record DamageRefused : Type 0 where
   pub header-refused : (kind today : ℕ) → IsBiometric kind → (c d v : List ℕ) (at : ℕ) → Bytes c → Bytes d → (x : Element kind today c 0xBC v at)
       → DamagedIn c d (part v 59 25) (at + 59) → (before after : List ℕ) (r : Checked) → Checks kind today d before after r
       → r .verdict ≡ record { number = numberOf BadFascn; place = elementPlace kind (x .values) (x .conforms .forms) (x .row); tag = Of 0xBC }
+  -- a container is damaged so where the damaged FASC-N is put into the place of the other, and all else is as it was
+  pub put-in-place : (c f t : List ℕ) (at : ℕ) → at + 25 ≤ length c → Damaged six f t → DamagedIn c (take at c ++ (t ++ drop (at + 25) c)) f at
   -- "Seven is too many: two neighbouring digits 00 turned into 33": wherever they stand, one FASC-N is the other damaged within seven bits; and there are such
   pub zeros-to-threes : (s t : List ℕ) (n m : Numbers) → IsFascnOf s n → IsFascnOf t m → ZerosToThrees n m → Damaged 7 s t
   pub seven-too-many : (s : List ℕ) × (t : List ℕ) × IsFascn s × IsFascn t × Damaged 7 s t

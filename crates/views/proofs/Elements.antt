@@ -11,7 +11,7 @@ use lib.Dec.{eqb}
 use lib.ListN.{length, take, drop, getD}
 use borrow.Author.Tests.{eq-eqb, ne-eqb}
 use Rattle.laws.specs.Bytes.{Bytes}
-use Rattle.laws.proofs.Cases.{which}
+use Rattle.laws.proofs.Cases.{which, no-some, none-at}
 use Rattle.verdicts.specs.Verdicts.{outright, verdictOf}
 use Rattle.verdicts.specs.declared.Fault.the-variants.{NoElement}
 use Rattle.verdicts.specs.declared.Outcome.the-variants.{Fine, Broken}
@@ -62,13 +62,9 @@ foreign (r ∷ rs) (p ∷ ps) t h =
 
 -- ---- the value of a row, and its part
 
-no-value : {v : List ℕ} → none ≡ some v → ⊥
-no-value e = let z : _≡_ {A = ℕ} 0 1 = cc in omega arith
-
 pub value-part : (ps : List (Option Part)) (i : ℕ) (v : List ℕ) → getD (valuesOf ps) i none ≡ some v → (p : Part) × (getD ps i none ≡ some p) × (p .bytes ≡ v)
-value-part [] zero v e = absurd (no-value e)
-value-part [] (suc i) v e = absurd (no-value e)
-value-part (none ∷ ps) zero v e = absurd (no-value e)
+value-part [] i v e = absurd (none-at i e)
+value-part (none ∷ ps) zero v e = absurd (no-some e)
 value-part (none ∷ ps) (suc i) v e = value-part ps i v e
 value-part (some p ∷ ps) zero v e = (p, refl, cc)
 value-part (some p ∷ ps) (suc i) v e = value-part ps i v e
@@ -78,7 +74,7 @@ no-value-part [] zero e = refl
 no-value-part [] (suc i) e = refl
 no-value-part (none ∷ ps) zero e = refl
 no-value-part (none ∷ ps) (suc i) e = no-value-part ps i e
-no-value-part (some p ∷ ps) zero e = absurd (no-value (sym e))
+no-value-part (some p ∷ ps) zero e = absurd (no-some (sym e))
 no-value-part (some p ∷ ps) (suc i) e = no-value-part ps i e
 
 -- ---- the theorems

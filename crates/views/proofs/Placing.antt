@@ -7,6 +7,7 @@ use mathlib.Core.Option.{none, some}
 use mathlib.Core.List.{List, [], _∷_}
 use native.Mathlib.Omega.{arith}
 use lib.ListN.{length, take, drop, getD}
+use Rattle.laws.proofs.Cases.{no-some, none-at}
 use Rattle.kinds.specs.Tables.{Table, table, first, rowAt}
 use Rattle.kinds.specs.declared.Slot.the-variants.{Holds}
 use Rattle.container.specs.Container.{Values, Spellings, long, spelled, Allowed, Formed, Conforms}
@@ -14,20 +15,15 @@ use Rattle.container.specs.Reading.{Part}
 use Rattle.container.proofs.Exact.{element-length, partsFrom}
 use Rattle.container.proofs.Promise.{partsOf}
 use Rattle.views.specs.Views.{placeOf}
-use Rattle.views.proofs.Ways.{no-part}
-
-no-parts : (i : ℕ) {p : Part} → getD [] i none ≡ some p → ⊥
-no-parts zero e = no-part e
-no-parts (suc i) e = no-part e
 
 -- of some rows, whose elements start at an offset
 rows-placed : (today at : ℕ) (rs : Table) (vs : Values) (ps : Spellings) → Allowed today rs vs → Formed vs ps → (i : ℕ) (p : Part) → getD (partsFrom at rs vs ps) i none ≡ some p
     → (t : ℕ) (o : Bool) → first (drop i rs) ≡ Holds t o → p .offset ≡ at + length (spelled (take i rs) (take i vs) (take i ps)) + long t + length (getD ps i [])
-rows-placed today at [] [] ps a f i p e t o q = absurd (no-parts i e)
+rows-placed today at [] [] ps a f i p e t o q = absurd (none-at i e)
 rows-placed today at [] (v ∷ vs) ps a f i p e t o q = absurd a
 rows-placed today at (r ∷ rs) [] ps a f i p e t o q = absurd a
 rows-placed today at (r ∷ rs) (v ∷ vs) [] a f i p e t o q = absurd f
-rows-placed today at (r ∷ rs) (none ∷ vs) (x ∷ ps) a f zero p e t o q = absurd (no-part e)
+rows-placed today at (r ∷ rs) (none ∷ vs) (x ∷ ps) a f zero p e t o q = absurd (no-some e)
 rows-placed today at (r ∷ rs) (none ∷ vs) (x ∷ ps) a f (suc i) p e t o q = rows-placed today at rs vs ps (a .1) (f .1) i p e t o q
 rows-placed today at (r ∷ rs) (some v ∷ vs) (x ∷ ps) a f zero p e t o q =
     let z : record { offset = at + long (r .tag) + length x; bytes = v } ≡ p = cc in

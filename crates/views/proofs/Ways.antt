@@ -11,7 +11,7 @@ use lib.Dec.{eqb}
 use lib.ListN.{length, take, drop, getD, List·getD-eq-default}
 use borrow.Author.Tests.{ne-eqb}
 use Rattle.laws.specs.Bytes.{Bytes}
-use Rattle.laws.proofs.Cases.{which}
+use Rattle.laws.proofs.Cases.{which, no-some, none-at}
 use Rattle.verdicts.specs.Verdicts.{verdictOf}
 use Rattle.verdicts.specs.declared.Outcome.the-variants.{Fine, Broken}
 use Rattle.verdicts.specs.declared.Verdict.{Verdict}
@@ -67,14 +67,10 @@ by-row (r ∷ rs) (o ∷ ps) i from t =
         let z : j - (i + 1) ≡ suc (j - (i + 1 + 1)) = omega (arith, h .0) in
         rw z
 
-pub no-part : {p : Part} → none ≡ some p → ⊥
-no-part e = let z : _≡_ {A = ℕ} 0 1 = cc in omega arith
-
 -- a part of some that stand stands
 pub picked : (c : List ℕ) (ps : List (Option Part)) → All c ps → (i : ℕ) (p : Part) → getD ps i none ≡ some p → Stands c p
-picked c [] a zero p e = absurd (no-part e)
-picked c [] a (suc i) p e = absurd (no-part e)
-picked c (none ∷ ps) a zero p e = absurd (no-part e)
+picked c [] a i p e = absurd (none-at i e)
+picked c (none ∷ ps) a zero p e = absurd (no-some e)
 picked c (none ∷ ps) a (suc i) p e = picked c ps a i p e
 picked c (some q ∷ ps) a zero p e = let z : q ≡ p = cc in rw z at (a .0)
 picked c (some q ∷ ps) a (suc i) p e = picked c ps (a .1) i p e
