@@ -1,4 +1,6 @@
 // Request 2026-11: a signature block read as a CMS SignedData in its ContentInfo, and where its first certificate stands.
+#![tactic(auto)]
+
 ghost use Rattle.std.specs.Prelude.{◌≤◌, length};
 ghost use Rattle.blocks.specs.Reading.{Reads, Found, FoundTagged, FirstFound, TellsParts, TellsItem};
 
@@ -6,7 +8,7 @@ use der::Walked;
 use heads::{Head, front};
 
 // What a block is: no SignedData; one without a certificate; one whose first certificate stands from here to there.
-#[derive(Drop)]
+#[derive(Clone, Copy)]
 pub enum Block {
     Bad,
     Empty,
@@ -14,7 +16,7 @@ pub enum Block {
 }
 
 // An item: where its contents start, of a constructed one, and where it ends. One that is absent takes no bytes.
-#[derive(Drop)]
+#[derive(Clone, Copy)]
 struct Part {
     from: usize,
     to: usize,

@@ -1,5 +1,7 @@
 // The twelve calls for C, four of them in folder.rt: include/prosianek.h declares them. A slice is a pointer and a length there, a
 // lent number a pointer; each function answers 01's number. Each contract is one record of specs/Calls.antt.
+#![tactic(auto)]
+
 mod folder;
 
 ghost use Rattle.capi.specs.Calls.{CChecks, CWrites, CViews, CReports, CLists, CSigners, CDecodes, CEncodes};

@@ -1,5 +1,7 @@
 // The report's first section: "CARD (kind, bytes in the container, today, verdict number and place)", and the verdict's tag, as
 // text into a lent room. Where the room ends, so does the text: no writer asks anything of its caller.
+#![tactic(auto)]
+
 ghost use Rattle.std.specs.Prelude.{[], ◌∷◌, ◌++◌};
 ghost use Rattle.laws.specs.Room.{Put};
 ghost use Rattle.verdicts.specs.Verdicts.{verdict_of};

@@ -1,4 +1,6 @@
 // The value of BC: the CBEFF header, field by field in 01's order, and its data part.
+#![tactic(auto)]
+
 ghost use Rattle.std.specs.Prelude.{◌≡◌, ◌^◌, ◌<◌, ◌≤◌, length};
 ghost use Rattle.laws.specs.Format.{judge};
 ghost use Rattle.verdicts.specs.Verdicts.{ruled};
@@ -15,7 +17,7 @@ use plain::{is_creator, is_quality};
 use verdicts::{Fault, Ruling};
 
 // What the data part of a format is.
-#[derive(Drop)]
+#[derive(Clone, Copy)]
 pub enum Body {
     Minutiae,
     Facial,
@@ -24,7 +26,7 @@ pub enum Body {
 
 // What differs by format: its owner, its number, the type, the top three bits of the data type, whether a quality of -1 is
 // known, what the data part is, and the fault of one that is no such record.
-#[derive(Drop)]
+#[derive(Clone, Copy)]
 pub struct Biometric {
     pub owner: u64,
     pub format: u64,

@@ -1,4 +1,6 @@
 // "A plain form that fills five number lists comes first" (2026-10): type, x, y, angle and quality of each point.
+#![tactic(auto)]
+
 ghost use Rattle.std.specs.Prelude.{◌≡◌, ◌++◌, ◌+◌, ◌*◌, ◌-◌, ◌≤◌, length, take, set};
 ghost use Rattle.laws.specs.Room.{zeros};
 ghost use Rattle.points.specs.Calls.{five, lists_of, HoldsEach, FillsLists};

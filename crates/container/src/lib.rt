@@ -1,5 +1,7 @@
 // Judges a container: its outer form, then its elements against the kind's table, in one pass that notes where each row's
 // value lies.
+#![tactic(auto)]
+
 ghost use Rattle.std.specs.Prelude.{◌≡◌, ◌<◌, ◌≤◌, ◌+◌, ◌-◌, ltb, length, drop, get_or};
 ghost use Rattle.laws.specs.Room.{zeros};
 ghost use Rattle.laws.specs.Layout.{part};
@@ -15,7 +17,7 @@ use verdicts::{Fault, Finding, Outcome, Ruling, Tag};
 
 // The outcome, and from where to where the value of each row lies: 0 and 0 for a row that is absent, and throughout where
 // something is wrong.
-#[derive(Drop)]
+#[derive(Clone, Copy)]
 pub struct Map {
     pub outcome: Outcome,
     pub from: [u16; 16],
@@ -23,14 +25,14 @@ pub struct Map {
 }
 
 // What the bytes after an element's tag come to: the fault, or where the value starts and ends.
-#[derive(Drop)]
+#[derive(Clone, Copy)]
 enum Value {
     Bad(Fault),
     Whole(usize, usize),
 }
 
 // What judging one element comes to: the finding, or where its value starts and ends, and its row, counted from 1.
-#[derive(Drop)]
+#[derive(Clone, Copy)]
 enum Step {
     Stop(Finding),
     Next(usize, usize, u64),

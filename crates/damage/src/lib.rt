@@ -1,1 +1,2 @@
 // No code: what damage in a FASC-N does, as theorems in proofs/.
+#![tactic(auto)]

@@ -1,5 +1,7 @@
 // Dates: as the number that a call takes for today, as eight digits of text, as the nine characters that are printed, as the
 // eight bytes of a header; and the window of an expiry.
+#![tactic(auto)]
+
 ghost use Rattle.std.specs.Prelude.{◌≡◌, ◌<◌, ◌≤◌};
 ghost use Rattle.dates.specs.Calendar.{leap, days_in, exists};
 ghost use Rattle.dates.specs.Date.{is_date, is_digit, date_of, in_window};
@@ -8,7 +10,7 @@ ghost use Rattle.dates.specs.Pairs.{two_digits};
 ghost use Rattle.dates.specs.Printed.{month_number, is_printed_date};
 
 // A text date: its eight-digit number.
-#[derive(Drop)]
+#[derive(Clone, Copy)]
 pub enum Date {
     Is(u64),
     Not,

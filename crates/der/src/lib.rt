@@ -1,4 +1,6 @@
 // Request 2026-04: whether bytes are one DER item, to a depth that is a parameter, in one pass over the items.
+#![tactic(auto)]
+
 ghost use Rattle.std.specs.Prelude.{◌≡◌, ◌+◌, ◌-◌, ◌<◌, ◌≤◌, length, take, drop, get_or};
 ghost use Rattle.der.specs.Walk.{items, PassesOver, judged, tally, certificate, depth_for};
 
@@ -7,7 +9,7 @@ use numbers::{index, lesser};
 use verdicts::{Fault, Ruling};
 
 // What a walk answers: all is good, with the number of the outermost's parts; or the first fault, 24 or 25.
-#[derive(Drop)]
+#[derive(Clone, Copy)]
 pub enum Walked {
     Whole(usize),
     Bad,
@@ -15,7 +17,7 @@ pub enum Walked {
 }
 
 // Items that were passed over: how many, and their bytes.
-#[derive(Drop)]
+#[derive(Clone, Copy)]
 struct Run {
     items: usize,
     bytes: usize,

@@ -1,5 +1,7 @@
 // The desk program: reads two digits for the kind, eight for today and a container from standard input, and prints the report,
 // or `refused N`. What it prints is said and proved in the crate printout; here it is read and written.
+#![tactic(auto)]
+
 ghost use Rattle.printout.specs.Printout.{Prints};
 
 use libc::{STDERR_FILENO, STDIN_FILENO, STDOUT_FILENO};

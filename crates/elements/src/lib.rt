@@ -1,6 +1,8 @@
 // The report's second section: "ELEMENTS (tag in hex, length)", "after its count of lines", as text into a lent room. All that
 // it is given is the kind and the map, from where to where each row's value lies: no byte of a card comes here. Where the room
 // ends, so does the text: no writer asks anything of its caller.
+#![tactic(auto)]
+
 ghost use Rattle.std.specs.Prelude.{◌≡◌, ◌-◌, length};
 ghost use Rattle.laws.specs.Room.{Put};
 ghost use Rattle.kinds.specs.Tables.{table};

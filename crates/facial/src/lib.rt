@@ -1,4 +1,6 @@
 // The facial record, judged in one pass over its images. Their pixels are not looked at.
+#![tactic(auto)]
+
 ghost use Rattle.std.specs.Prelude.{◌≡◌, ◌≤◌, length};
 ghost use Rattle.records.specs.Fills.{fills};
 ghost use Rattle.facial.specs.Judged.{informed, extent, record_head, is_facial};

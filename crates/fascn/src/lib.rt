@@ -1,4 +1,6 @@
 // The FASC-N, in 25 bytes: decoded, and encoded into a lent room.
+#![tactic(auto)]
+
 ghost use Rattle.std.specs.Prelude.{◌≡◌, Bool, [], ◌∷◌, ◌++◌, map, ℕ, ◌+◌, ◌-◌, ◌*◌, ◌^◌, ◌<◌, ◌≤◌, length, replicate};
 ghost use Rattle.laws.specs.Digits.{digits, value, stored, groups};
 ghost use Rattle.laws.specs.Layout.{part};
@@ -7,7 +9,7 @@ ghost use Rattle.fascn.specs.Fascn.{symbol, exclusive, values, checked, encoded,
 ghost use Rattle.fascn.specs.Reading.{value_of, is_digit, framed, fields, decoded, is_fascn, origin_of};
 ghost use Rattle.fascn.specs.Calls.{refused, Encoded};
 
-#[derive(Drop)]
+#[derive(Clone, Copy)]
 pub struct Numbers {
     pub agency: u64,
     pub system: u64,
@@ -21,14 +23,14 @@ pub struct Numbers {
 }
 
 // Where a card is from.
-#[derive(Drop)]
+#[derive(Clone, Copy)]
 pub struct Origin {
     pub agency: u64,
     pub system: u64,
 }
 
 // What decoding answers: 0 and the numbers, or 17 and nine zeros.
-#[derive(Drop)]
+#[derive(Clone, Copy)]
 pub struct Decoded {
     pub number: u64,
     pub numbers: Numbers,

@@ -1,6 +1,8 @@
 // The folder program, `folder TODAY FILE`: goes over the counts and lengths of a folder, then goes through it again with one container
 // at a time, writes the summary beside it and prints it; or prints `refused N`. What is said and proved of it is in the crates pieces
 // and summary; here the file is read and the text is written.
+#![tactic(auto)]
+
 ghost use Rattle.std.specs.Prelude.{true, false, ◌≡◌, ◌<◌, length, take, ◌++◌};
 ghost use Rattle.laws.specs.Ascii.{ascii};
 ghost use Rattle.laws.specs.Room.{Put};
@@ -15,7 +17,7 @@ use summary::Tally;
 
 // How far the second time through is: whether the file could not be read, how many rows are written, the offset of the next
 // container, how many bytes of text there are, and the state that goes from row to row.
-#[derive(Drop)]
+#[derive(Clone, Copy)]
 pub struct Going {
     pub unread: bool,
     pub count: u64,
@@ -25,7 +27,7 @@ pub struct Going {
 }
 
 // What going over the folder comes to.
-#[derive(Drop)]
+#[derive(Clone, Copy)]
 enum Gone {
     Unread,
     To(State),

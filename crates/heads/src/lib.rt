@@ -1,11 +1,13 @@
 // Request 2026-04: the front of a DER item, which is its tag and its length, and whether the item fits.
+#![tactic(auto)]
+
 ghost use Rattle.std.specs.Prelude.{◌≡◌, ◌<◌, ◌≤◌, length, get_or};
 ghost use Rattle.heads.specs.Head.{head_of, headed};
 
 use numbers::index;
 
 // What stands where an item is due: how many bytes the item takes and, of a constructed one, how many stand before its parts.
-#[derive(Drop)]
+#[derive(Clone, Copy)]
 pub enum Head {
     Broken,
     Leaf(usize),

@@ -1,4 +1,6 @@
 // The iris record, judged in one pass over its representations. Their images are not looked at, and their fields by `pictures`.
+#![tactic(auto)]
+
 ghost use Rattle.std.specs.Prelude.{◌≡◌, ◌^◌, ◌<◌, ◌≤◌, length};
 ghost use Rattle.records.specs.Fills.{fills};
 ghost use Rattle.iris.specs.Judged.{extent, extent_of, record_head, is_iris};

@@ -1,9 +1,11 @@
 // The tables of the twelve kinds: which row a tag has, which tag a row has, and which row is the last that must be there.
+#![tactic(auto)]
+
 ghost use Rattle.std.specs.Prelude.{◌≡◌};
 ghost use Rattle.kinds.specs.Tables.{is_kind, row_of, row_at, last_row};
 
 // The rule of a row's value.
-#[derive(Drop)]
+#[derive(Clone, Copy)]
 pub enum ValueRule {
     Free,
     Fascn,
@@ -22,7 +24,7 @@ pub enum ValueRule {
 }
 
 // What a kind's table says of a tag.
-#[derive(Drop)]
+#[derive(Clone, Copy)]
 pub enum Row {
     // The row's number from 1; the last mandatory row before it, 0 for none; the least and the most length, and whether
     // 0 is permitted too; the rule of its value.
@@ -31,7 +33,7 @@ pub enum Row {
 }
 
 // What a kind's table has at a row's number, counted from 0.
-#[derive(Drop)]
+#[derive(Clone, Copy)]
 pub enum Slot {
     // The row's tag, and whether it is optional.
     Holds(u64, bool),

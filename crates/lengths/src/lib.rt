@@ -1,5 +1,7 @@
 // 01, "Container form": the length of an element, read where one is due in any of its forms, and written in the
 // fewest bytes.
+#![tactic(auto)]
+
 ghost use Rattle.std.specs.Prelude.{◌≡◌, ◌+◌, ◌<◌, ◌≤◌, length, drop, get_or};
 ghost use Rattle.laws.specs.Room.{Put};
 ghost use Rattle.lengths.specs.Length.{length_at, length_bytes};
@@ -7,7 +9,7 @@ ghost use Rattle.lengths.specs.Length.{length_at, length_bytes};
 use room::{put_byte, put_pair};
 
 // What stands where a length is due.
-#[derive(Drop)]
+#[derive(Clone, Copy)]
 pub enum Length {
     // The length, and the offset of what follows it.
     Is(usize, usize),

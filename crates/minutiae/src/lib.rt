@@ -1,4 +1,6 @@
 // The finger minutiae record, judged in one pass.
+#![tactic(auto)]
+
 ghost use Rattle.std.specs.Prelude.{◌≡◌, ◌*◌, ◌≤◌, length};
 ghost use Rattle.minutiae.specs.Minutiae.{quality};
 ghost use Rattle.minutiae.specs.Judged.{point_holds, points_hold, view_head, extent, record_head, is_minutiae};

@@ -1,4 +1,6 @@
 // Numbers that stand in bytes, most significant byte first, and the lesser of two.
+#![tactic(auto)]
+
 ghost use Rattle.std.specs.Prelude.{◌≡◌, ◌+◌, ◌^◌, ◌<◌, ◌≤◌, min, length};
 ghost use Rattle.laws.specs.Layout.{field};
 

@@ -1,5 +1,7 @@
 // The report's third section: "OPEN (named values)", "after its count of lines", as text into a lent room. "Every other value is
 // personal": no other row is taken out of the container here. Where the room ends, so does the text.
+#![tactic(auto)]
+
 ghost use Rattle.std.specs.Prelude.{◌≡◌, ◌++◌, ℕ, length};
 ghost use Rattle.laws.specs.Room.{Put};
 ghost use Rattle.texts.specs.Text.{ascii, digits_line};

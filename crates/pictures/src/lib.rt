@@ -1,4 +1,6 @@
 // The fields of an iris's picture: when it was captured, what it is, and how large.
+#![tactic(auto)]
+
 ghost use Rattle.std.specs.Prelude.{◌≡◌, ◌^◌, ◌<◌, ◌≤◌, length};
 ghost use Rattle.pictures.specs.Pictures.{properties, centre};
 ghost use Rattle.pictures.specs.Judged.{date_holds, marks_hold, shape_holds, image_holds};

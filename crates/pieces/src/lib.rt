@@ -1,5 +1,7 @@
 // Request 2026-14: a folder is gone over before any container of it is looked at. "a two-byte count, at most 256, then for each a
 // kind byte, a four-byte length and the bytes, all big-endian, nothing after": it comes in pieces of any size.
+#![tactic(auto)]
+
 ghost use Rattle.std.specs.Prelude.{◌≡◌, ◌<◌, length};
 ghost use Rattle.pieces.specs.Pieces.{one, passed, counted, long, over, Turns, ended};
 
@@ -8,7 +10,7 @@ use verdicts::Fault;
 // How far it is. Which byte comes next: 0 and 1 the count's; 2 an entry's kind; 3 to 6 its length's; 7 one of its container; 8 none,
 // the folder is whole; 9 none, it is torn. The number that is being read, or how many bytes of the container come behind the next
 // one. How many entries are left, with this one. It begins as zeros.
-#[derive(Drop)]
+#[derive(Clone, Copy)]
 pub struct State {
     pub phase: u64,
     pub value: u64,
@@ -104,7 +106,7 @@ fn one_byte(s: State, x: u8) -> State
 }
 
 // The state after a byte, or after as many as can be passed over at once, and where the next one stands.
-#[derive(Drop)]
+#[derive(Clone, Copy)]
 struct Turned {
     state: State,
     next: usize,

@@ -1,4 +1,6 @@
 // 01, "Values": the small rules, each a test of some bytes.
+#![tactic(auto)]
+
 ghost use Rattle.std.specs.Prelude.{◌≡◌, get_or};
 ghost use Rattle.laws.specs.Tests.{same};
 ghost use Rattle.plain.specs.Plain.{is_uuid, is_policy, is_printed, is_text, ended, is_creator};

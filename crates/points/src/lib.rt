@@ -1,6 +1,8 @@
 // "From a conforming FINGERS container fill the caller's list of points (type, x, y, angle, quality), first view then second,
 // and give both counts." (2026-10) Here is what both forms of the call share: what is listed, where it stands, and which entry is
 // which point. `columns` fills five lists of numbers, and the door a list of points.
+#![tactic(auto)]
+
 ghost use Rattle.std.specs.Prelude.{◌≡◌, ◌+◌, ◌≤◌, length};
 ghost use Rattle.points.specs.Places.{point_at, entry_of, no_plan, plan_at, answer_of, Inside, Stands, Plans};
 
@@ -8,7 +10,7 @@ use numbers::number;
 use verdicts::{Outcome, Tag, Verdict};
 
 // A point: its type, where it is, its angle, its quality.
-#[derive(Drop)]
+#[derive(Clone, Copy)]
 pub struct Point {
     pub sort: u64,
     pub x: u64,
@@ -18,7 +20,7 @@ pub struct Point {
 }
 
 // What both calls answer: the verdict, and how many points each view has.
-#[derive(Drop)]
+#[derive(Clone, Copy)]
 pub struct Listed {
     pub verdict: Verdict,
     pub first: u64,
@@ -27,7 +29,7 @@ pub struct Listed {
 
 // The verdict; where in the container the first view's points stand, how many they are, and how many the second view has. A
 // refusal has none to list.
-#[derive(Drop)]
+#[derive(Clone, Copy)]
 pub struct Plan {
     pub verdict: Verdict,
     pub at: usize,

@@ -1,4 +1,6 @@
 // What the desk program prints: the report of the container in its input, or `refused N`.
+#![tactic(auto)]
+
 ghost use Rattle.std.specs.Prelude.{◌≡◌, ◌<◌, length};
 ghost use Rattle.laws.specs.Room.{zeros, Put};
 ghost use Rattle.printout.specs.Printout.{kind_of, desk_text, refused_text};

@@ -1,1 +1,2 @@
 // No code: what the bench promises, as theorems in proofs/.
+#![tactic(auto)]

@@ -1,5 +1,7 @@
 // The desk report: CARD, ELEMENTS and OPEN, as text into a lent room. The container is walked once, by the judge; all that is
 // written of it is taken by the map.
+#![tactic(auto)]
+
 ghost use Rattle.std.specs.Prelude.{ℕ, length};
 ghost use Rattle.laws.specs.Room.{Put};
 ghost use Rattle.verdicts.specs.Output.{Leaves};

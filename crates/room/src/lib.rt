@@ -1,5 +1,7 @@
 // The lent room: cleared, and bytes laid into it one after the other. Where the room ends, so does the text: no writer
 // asks anything of its caller, and none writes past the room.
+#![tactic(auto)]
+
 ghost use Rattle.std.specs.Prelude.{◌≡◌, [], ◌∷◌, ◌++◌, ◌⊎◌, ◌<◌, ◌≤◌, length, take, drop};
 ghost use Rattle.laws.specs.Room.{zeros, Put};
 

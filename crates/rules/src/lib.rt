@@ -1,4 +1,6 @@
 // The rule of a value, by its name in the tables.
+#![tactic(auto)]
+
 ghost use Rattle.std.specs.Prelude.{◌≡◌};
 ghost use Rattle.verdicts.specs.Verdicts.{unless};
 ghost use Rattle.rules.specs.Rules.{expires, rule_of};

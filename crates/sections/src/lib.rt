@@ -1,5 +1,7 @@
 // A value sheet taken apart: where each row's value lies, and what the values come to: 1, 2, 5, then row by row 15, 16 and the
 // value's rules.
+#![tactic(auto)]
+
 ghost use Rattle.std.specs.Prelude.{◌≡◌, false, ◌<◌, ◌≤◌, ◌+◌, length};
 ghost use Rattle.laws.specs.Room.{zeros};
 ghost use Rattle.kinds.specs.Tables.{table, row_of, permits};
@@ -17,7 +19,7 @@ use kinds::{Row, Slot, ValueRule};
 use verdicts::{Fault, Finding, Ruling, Tag};
 
 // What is to be done with a sheet.
-#[derive(Drop)]
+#[derive(Clone, Copy)]
 pub enum Plan {
     // It is refused.
     Refuse(Finding),
@@ -26,7 +28,7 @@ pub enum Plan {
 }
 
 // The plan, and from where to where the value of each row lies: 0 and 0 for a row that is absent.
-#[derive(Drop)]
+#[derive(Clone, Copy)]
 pub struct Sheet {
     pub plan: Plan,
     pub from: [u32; 16],
@@ -34,7 +36,7 @@ pub struct Sheet {
 }
 
 // Whether a sheet is whole, and where its values lie.
-#[derive(Drop)]
+#[derive(Clone, Copy)]
 struct Places {
     whole: bool,
     from: [u32; 16],

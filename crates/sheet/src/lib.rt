@@ -1,5 +1,7 @@
 // The value sheet, "a section for each table row in order: a two-byte big-endian count, 0 for absent, else n + 1, then n
 // bytes"; and the check, which gives it beside its verdict.
+#![tactic(auto)]
+
 ghost use Rattle.std.specs.Prelude.{◌≡◌, ◌<◌, ◌≤◌, length};
 ghost use Rattle.std.proofs.Math.Option.{some};
 ghost use Rattle.laws.specs.Room.{laid, Put};
@@ -18,7 +20,7 @@ use verdicts::{Done, Outcome, Tag, Verdict};
 
 // What a check answers: the verdict; 3 where it is 0 and the lent room is under the sheet's length, else 0; and how long the
 // sheet is that was written, 0 where none was.
-#[derive(Drop)]
+#[derive(Clone, Copy)]
 pub struct Checked {
     pub verdict: Verdict,
     pub room: u64,

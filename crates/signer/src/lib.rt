@@ -1,5 +1,7 @@
 // Request 2026-11: "The signer's certificate stands in the biometric's own signature block or, if that block has none, in the
 // CHUID's 3E. Given both containers, hand back the certificate as a part of the one it lies in, and say which."
+#![tactic(auto)]
+
 ghost use Rattle.std.specs.Prelude.{◌≡◌, ◌+◌, ◌≤◌, length};
 ghost use Rattle.laws.specs.Layout.{field};
 ghost use Rattle.verdicts.specs.Verdicts.{outright, verdict_of};
@@ -15,7 +17,7 @@ use verdicts::{Fault, Outcome, Tag, Verdict};
 
 // The verdict; which container it is about, or has the certificate: 1 the CHUID, 2 the biometric, 0 neither; and from where to
 // where the certificate stands there.
-#[derive(Drop)]
+#[derive(Clone, Copy)]
 pub struct Located {
     pub verdict: Verdict,
     pub which: u64,

@@ -1,5 +1,7 @@
 // Request 2026-14, "The order's folder": a row for each container of a folder, and the two last lines, each as text into a lent room;
 // and the state that goes from row to row.
+#![tactic(auto)]
+
 ghost use Rattle.std.specs.Prelude.{true, ◌≡◌, ℕ, ltb, length};
 ghost use Rattle.laws.specs.Room.{zeros, Put};
 ghost use Rattle.verdicts.specs.Output.{Leaves};
@@ -16,7 +18,7 @@ use verdicts::{Done, Fault, Outcome, Verdict};
 
 // "the state of the folder by value": how many conform so far; 0 while no FASC-N was seen, 1 while all that were seen are alike,
 // else they differ; the first that was seen. It begins as zeros.
-#[derive(Drop)]
+#[derive(Clone, Copy)]
 pub struct Tally {
     pub good: u64,
     pub agreement: u64,
@@ -24,7 +26,7 @@ pub struct Tally {
 }
 
 // What a row's call answers: the number, the length of the line, and the state.
-#[derive(Drop)]
+#[derive(Clone, Copy)]
 pub struct Rowed {
     pub number: u64,
     pub length: u64,
@@ -32,7 +34,7 @@ pub struct Rowed {
 }
 
 // What a container's row is made of: the verdict, and the state with this container.
-#[derive(Drop)]
+#[derive(Clone, Copy)]
 struct Judging {
     verdict: Verdict,
     tally: Tally,

@@ -1,6 +1,8 @@
 // 01, "Sheets, views and the report": numbers as text, put into a lent room. "Hex is upper case. Numbers are decimal
 // without leading zeros, except today and expires (eight digits) and agency and system (four)." Where the room ends, so
 // does the text: no writer asks anything of its caller.
+#![tactic(auto)]
+
 ghost use Rattle.std.specs.Prelude.{◌≡◌, ◌++◌, ◌<◌, set};
 ghost use Rattle.laws.specs.Room.{Put};
 ghost use Rattle.texts.specs.Text.{fixed, decimal, numeral, digits_line, hex_digit, hex2, hex_tag};

@@ -1,11 +1,13 @@
 // The faults that 01 and the requests number, and the verdict: a number, its place, and the tag of the element there.
+#![tactic(auto)]
+
 ghost use Rattle.std.specs.Prelude.{◌≡◌};
 ghost use Rattle.verdicts.specs.Verdicts.{number_of, tag_number, outright, found, verdict_of};
 ghost use Rattle.verdicts.specs.declared.Tag.TheVariants.{NoTag};
 ghost use Rattle.verdicts.specs.Output.{refusal, done_of};
 
 // What can be wrong, in the order of 01's table of numbers.
-#[derive(Drop)]
+#[derive(Clone, Copy)]
 pub enum Fault {
     UnknownKind,
     NoDate,
@@ -40,7 +42,7 @@ pub enum Fault {
 }
 
 // What a value's rule answers.
-#[derive(Drop)]
+#[derive(Clone, Copy)]
 pub enum Ruling {
     Kept,
     Breaks(Fault),
@@ -48,7 +50,7 @@ pub enum Ruling {
 
 // Which element a finding is about: none, or the one with this tag. A byte 00 may stand where a tag should, so no number of a
 // tag can mean none.
-#[derive(Drop)]
+#[derive(Clone, Copy)]
 pub enum Tag {
     NoTag,
     Of(u64),
@@ -56,7 +58,7 @@ pub enum Tag {
 
 // What was found wrong: a fault, its place, and the tag of the element there. 01's numbers that carry no place have the place 0
 // and no tag.
-#[derive(Drop)]
+#[derive(Clone, Copy)]
 pub struct Finding {
     pub fault: Fault,
     pub place: usize,
@@ -64,14 +66,14 @@ pub struct Finding {
 }
 
 // What a walk answers: nothing is wrong, or the first finding.
-#[derive(Drop)]
+#[derive(Clone, Copy)]
 pub enum Outcome {
     Fine,
     Broken(Finding),
 }
 
 // The same in 01's numbers: 0, 0 and no tag, or the fault's number, its place and its tag.
-#[derive(Drop)]
+#[derive(Clone, Copy)]
 pub struct Verdict {
     pub number: u64,
     pub place: u64,
@@ -79,7 +81,7 @@ pub struct Verdict {
 }
 
 // What a call answers that writes into a lent room: the number, the place, the tag, and the length of what was written.
-#[derive(Drop)]
+#[derive(Clone, Copy)]
 pub struct Done {
     pub number: u64,
     pub place: u64,

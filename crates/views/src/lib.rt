@@ -1,4 +1,6 @@
 // "A view gives the element's value as a part of the caller's container; its place and length are fixed."
+#![tactic(auto)]
+
 ghost use Rattle.std.specs.Prelude.{◌≡◌};
 ghost use Rattle.kinds.specs.Tables.{row_of};
 ghost use Rattle.views.specs.ByMap.{absence, by_map};
@@ -9,7 +11,7 @@ use kinds::Row;
 use verdicts::{Outcome, Tag, Verdict};
 
 // What a view comes to: the verdict, and where the part lies in the container.
-#[derive(Drop)]
+#[derive(Clone, Copy)]
 pub struct Located {
     pub verdict: Verdict,
     pub from: usize,

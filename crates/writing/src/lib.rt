@@ -1,4 +1,6 @@
 // Writes a container from a value sheet: 1, 2, 5, then row by row 15, 16 and the value's rules, then 4, 3.
+#![tactic(auto)]
+
 ghost use Rattle.std.specs.Prelude.{◌≡◌, ◌<◌, length};
 ghost use Rattle.laws.specs.Room.{Put};
 ghost use Rattle.kinds.specs.Tables.{table};

@@ -17,12 +17,12 @@ invariant-loop s at width n₀ i₀ n i = (i ≤ width) × (n ≡ value 256 (tak
 abbrev decreases-loop : tie.decreases-loop
 decreases-loop s at width n₀ i₀ n i = width - i
 
-mul-n : tie.Need-overflow-mul-n invariant-loop decreases-loop
+mul-n : tie.Need-overflow_mul-n invariant-loop decreases-loop
 mul-n c =
     let l = c.before.loop in
     omega (arith, byte_fits l.n 0 l.i l.invariant.2 (omega arith), eight-bytes l.i (omega arith))
 
-add-n : tie.Need-overflow-add-n invariant-loop decreases-loop
+add-n : tie.Need-overflow_add-n invariant-loop decreases-loop
 add-n c =
     let l = c.before.before.before.loop in
     omega (arith, byte_fits l.n 255 l.i l.invariant.2 (omega arith), eight-bytes l.i (omega arith))
