@@ -28,39 +28,36 @@ by_number =
 -- a fault stands at its number
 stands : (f : Fault) → get_or by_number (number_of f) Fine ≡ Broken (outright f)
 unfolding by_number
-stands f =
-    elim f [
-      | UnknownKind ↦ refl
-      | NoDate ↦ refl
-      | SmallRoom ↦ refl
-      | LargeContainer ↦ refl
-      | TornSheet ↦ refl
-      | NoElement ↦ refl
-      | LongNumber ↦ refl
-      | OuterTag ↦ refl
-      | LengthForm ↦ refl
-      | Overrun ↦ refl
-      | UnknownTag ↦ refl
-      | TagOrder ↦ refl
-      | MissingRow ↦ refl
-      | ElementLength ↦ refl
-      | BadFascn ↦ refl
-      | BadUuid ↦ refl
-      | BadDate ↦ refl
-      | BadFixed ↦ refl
-      | BadHeader ↦ refl
-      | BadMinutiae ↦ refl
-      | BadText ↦ refl
-      | BadDer ↦ refl
-      | TooDeep ↦ refl
-      | BadFace ↦ refl
-      | BadIris ↦ refl
-      | FascnDiffer ↦ refl
-      | BiometricBlock ↦ refl
-      | ChuidBlock ↦ refl
-      | NeitherHolds ↦ refl
-      | TornFolder ↦ refl
-    ]
+stands UnknownKind = refl
+stands NoDate = refl
+stands SmallRoom = refl
+stands LargeContainer = refl
+stands TornSheet = refl
+stands NoElement = refl
+stands LongNumber = refl
+stands OuterTag = refl
+stands LengthForm = refl
+stands Overrun = refl
+stands UnknownTag = refl
+stands TagOrder = refl
+stands MissingRow = refl
+stands ElementLength = refl
+stands BadFascn = refl
+stands BadUuid = refl
+stands BadDate = refl
+stands BadFixed = refl
+stands BadHeader = refl
+stands BadMinutiae = refl
+stands BadText = refl
+stands BadDer = refl
+stands TooDeep = refl
+stands BadFace = refl
+stands BadIris = refl
+stands FascnDiffer = refl
+stands BiometricBlock = refl
+stands ChuidBlock = refl
+stands NeitherHolds = refl
+stands TornFolder = refl
 
 -- a number at which no fault stands is that of none
 unused : (n : ℕ) → get_or by_number n Fine ≡ Fine → (f : Fault) → number_of f ≡ n → ⊥

@@ -1,0 +1,17 @@
+-- `numbers::number` meets its contract. Assumes nothing.
+use mathlib.Core.Path.{◌≡◌, refl}
+use Prim.Native.Nat.{◌-◌, ◌^◌, ◌≤◌, ◌<◌}
+use native.Mathlib.Nat.{pow-zero}
+use native.Mathlib.Omega.{arith}
+use lib.ListN.{length-drop, length, take, drop}
+use lib.Seq.{get_or-drop}
+use borrow.Author.Rules.{rules}
+use Rattle.laws.specs.Digits.{value}
+use Rattle.laws.proofs.Turns.{read_next, byte_fits, eight-bytes}
+use Rattle.numbers.proofs.number.Given as goal
+
+abbrev pub invariant-loop-i : goal.invariant-loop-i
+invariant-loop-i l = (l.i ≤ l.width) × (l.n ≡ value 256 (take l.i (drop l.at l.s))) × (l.n < 256 ^ l.i)
+
+abbrev pub decreases-loop-i : goal.decreases-loop-i
+decreases-loop-i l = l.width - l.i

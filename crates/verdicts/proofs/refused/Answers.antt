@@ -1,0 +1,6 @@
+-- `verdicts::refused` meets its contract. Assumes nothing.
+use borrow.Author.Rules.{rules}
+use Rattle.verdicts.proofs.refused.Goals as goal
+
+pub returns : goal.returns
+returns c = rw c.number_of.ensures
