@@ -1,0 +1,18 @@
+-- `der::leaves` meets its contract. The invariant: what was passed over so far may be. Assumes nothing.
+use Prim.Native.Nat.{◌+◌, ◌-◌, ◌≤◌}
+use mathlib.Core.Path.{◌≡◌}
+use native.Mathlib.Nat.{add-zero}
+use native.Mathlib.Omega.{arith}
+use lib.ListN.{length, get_or, drop, length-drop}
+use lib.Seq.{get_or-drop}
+use borrow.Author.Rules.{rules}
+use Rattle.heads.proofs.Heads.{short-leaf}
+use Rattle.der.specs.Walk.{PassesOver}
+use Rattle.der.proofs.Turns.{none_passed, one-passed}
+use Rattle.der.proofs.leaves.Given as goal
+
+abbrev pub invariant-loop-at : goal.invariant-loop-at
+invariant-loop-at l = PassesOver l.s (record { l.items = l.items; bytes = l.at })
+
+abbrev pub decreases-loop-at : goal.decreases-loop-at
+decreases-loop-at l = length l.s - l.at

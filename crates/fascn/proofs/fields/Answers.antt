@@ -1,0 +1,6 @@
+-- `fascn::fields` meets its contract. Assumes nothing.
+use borrow.Author.Rules.{rules}
+use Rattle.fascn.proofs.fields.Goals as goal
+
+pub returns : goal.returns
+returns c = cc
