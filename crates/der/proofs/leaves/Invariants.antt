@@ -12,7 +12,7 @@ use Rattle.der.proofs.Turns.{none_passed, one-passed}
 use Rattle.der.proofs.leaves.Given as goal
 
 abbrev pub invariant-loop-at : goal.invariant-loop-at
-invariant-loop-at l = PassesOver l.s (record { l.items = l.items; bytes = l.at })
+invariant-loop-at l = PassesOver l.s (record { items = l.items; bytes = l.at })
 
 abbrev pub decreases-loop-at : goal.decreases-loop-at
 decreases-loop-at l = length l.s - l.at

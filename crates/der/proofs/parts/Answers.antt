@@ -12,7 +12,7 @@ use Rattle.heads.proofs.Heads.{leaf-inside, open-inside}
 use Rattle.der.specs.Walk.{items}
 use Rattle.der.proofs.Turns.{span, span-long, from, Nested, nested-inside, nested-on, tally-most, started, finished, closed, nested-closed, sunk, stopped, passed-by, opened, nested-opened}
 use Rattle.der.proofs.parts.Goals as goal
-use Rattle.der.proofs.parts.Goals.{After-leaves-run, In-Leaf-2, In-Open-2}
+use Rattle.der.proofs.parts.Goals.{After-leaves-run, In-Leaf, In-Open}
 
 pub loop-at-init : goal.loop-at-init
 loop-at-init c =
@@ -53,11 +53,11 @@ returns-in-Broken c =
     sym (stopped a.v.now l.ends a.depth l.count l.at l.end l.level l.invariant.3 l.invariant.4 (omega arith) (omega arith) (sym c.front.ensures ∙ c.in-Broken.is)) ∙ l.invariant.6
 
 -- the item at hand: a primitive one
-leaf : (k : In-Leaf-2) → let l = k.loop-at in
+leaf : (k : In-Leaf) → let l = k.loop-at in
     head_of (span k.args.v.now l.at l.end) ≡ Leaf k.in-Leaf.size
 leaf k = sym k.front.ensures ∙ k.in-Leaf.is
 
-leaf-fits : (k : In-Leaf-2) → let l = k.loop-at in (1 ≤ k.in-Leaf.size) × (k.in-Leaf.size ≤ l.end - l.at)
+leaf-fits : (k : In-Leaf) → let l = k.loop-at in (1 ≤ k.in-Leaf.size) × (k.in-Leaf.size ≤ l.end - l.at)
 leaf-fits k =
     let l = k.loop-at in
     let v = k.args.v.now in
@@ -65,11 +65,11 @@ leaf-fits k =
     omega (arith, f.0, f.1, span-long v l.at l.end l.invariant.3 l.invariant.4)
 
 -- a constructed one
-nest : (k : In-Open-2) → let l = k.loop-at in
+nest : (k : In-Open) → let l = k.loop-at in
     head_of (span k.args.v.now l.at l.end) ≡ Open k.in-Open.first k.in-Open.size
 nest k = sym k.front.ensures ∙ k.in-Open.is
 
-nest-fits : (k : In-Open-2) → let l = k.loop-at in
+nest-fits : (k : In-Open) → let l = k.loop-at in
     (1 ≤ k.in-Open.first) × (k.in-Open.first ≤ k.in-Open.size) × (k.in-Open.size ≤ l.end - l.at)
 nest-fits k =
     let l = k.loop-at in
@@ -83,7 +83,7 @@ run_fits : (j : After-leaves-run) → let l = j.loop-at in
 run_fits j =
     let l = j.loop-at in
     let v = j.args.v.now in
-    let f = leaf-fits (goal.at.After-leaves-run j).In-Leaf-2 in
+    let f = leaf-fits (goal.at.After-leaves-run j).In-Leaf in
     let n = span-long v (l.at + j.in-Leaf.size) l.end (omega (arith, f)) l.invariant.4 in
     (j.leaves-run.ensures.few, omega (arith, f, n, j.leaves-run.ensures.inside))
 
@@ -94,54 +94,54 @@ loop-at-preserved-in-Leaf c =
     let r = c.leaves-run.result in
     let f = run_fits (goal.at.loop-at-preserved-in-Leaf c).After-leaves-run in (
       l.invariant.0,
-      omega (arith, f.0, leaf-fits (goal.at.loop-at-preserved-in-Leaf c).In-Leaf-2, c.counted-count.ensures, tally-most l.count (1 + r.items) l.level),
+      omega (arith, f.0, leaf-fits (goal.at.loop-at-preserved-in-Leaf c).In-Leaf, c.counted-count.ensures, tally-most l.count (1 + r.items) l.level),
       l.invariant.2,
       f.1,
       l.invariant.4,
       nested-on l.ends (length a.v.now) l.at l.end l.level (l.at + (c.in-Leaf.size + r.bytes)) l.invariant.5 f.1,
       rw c.counted-count.ensures
-          (sym (passed-by a.v.now l.ends a.depth l.count l.at l.end l.level l.invariant.3 l.invariant.4 (omega arith) c.in-Leaf.size (leaf (goal.at.loop-at-preserved-in-Leaf c).In-Leaf-2) r c.leaves-run.ensures) ∙ l.invariant.6),
+          (sym (passed-by a.v.now l.ends a.depth l.count l.at l.end l.level l.invariant.3 l.invariant.4 (omega arith) c.in-Leaf.size (leaf (goal.at.loop-at-preserved-in-Leaf c).In-Leaf) r c.leaves-run.ensures) ∙ l.invariant.6),
     )
 
 pub overflow_add-end : goal.overflow_add-end
-overflow_add-end c = omega (arith, nest-fits (goal.at.overflow_add-end c).In-Open-2)
+overflow_add-end c = omega (arith, nest-fits (goal.at.overflow_add-end c).In-Open)
 
 pub overflow_add-at-in-Open : goal.overflow_add-at-in-Open
-overflow_add-at-in-Open c = omega (arith, nest-fits (goal.at.overflow_add-at-in-Open c).In-Open-2)
+overflow_add-at-in-Open c = omega (arith, nest-fits (goal.at.overflow_add-at-in-Open c).In-Open)
 
 pub loop-at-smaller : goal.loop-at-smaller
-loop-at-smaller c = omega (arith, nest-fits (goal.at.loop-at-smaller c).In-Open-2)
+loop-at-smaller c = omega (arith, nest-fits (goal.at.loop-at-smaller c).In-Open)
 
 pub loop-at-preserved : goal.loop-at-preserved
 loop-at-preserved c =
     let l = c.loop-at in
     let a = c.args in
-    let f = nest-fits (goal.at.loop-at-preserved c).In-Open-2 in
+    let f = nest-fits (goal.at.loop-at-preserved c).In-Open in
     let m : l.level < length l.ends = omega arith in (
       omega arith,
       omega (arith, f, c.counted-count-in-Open.ensures, tally-most l.count 1 l.level),
       length-set l.ends l.level l.end ∙ l.invariant.2,
       omega (arith, f),
       omega (arith, f),
-      nested-opened a.v.now l.ends a.depth l.count l.at l.end l.level l.invariant.3 l.invariant.4 (omega arith) c.in-Open.first c.in-Open.size m (nest (goal.at.loop-at-preserved c).In-Open-2) l.invariant.5,
+      nested-opened a.v.now l.ends a.depth l.count l.at l.end l.level l.invariant.3 l.invariant.4 (omega arith) c.in-Open.first c.in-Open.size m (nest (goal.at.loop-at-preserved c).In-Open) l.invariant.5,
       rw c.counted-count-in-Open.ensures
-          (sym (opened a.v.now l.ends a.depth l.count l.at l.end l.level l.invariant.3 l.invariant.4 (omega arith) c.in-Open.first c.in-Open.size m (nest (goal.at.loop-at-preserved c).In-Open-2)) ∙ l.invariant.6),
+          (sym (opened a.v.now l.ends a.depth l.count l.at l.end l.level l.invariant.3 l.invariant.4 (omega arith) c.in-Open.first c.in-Open.size m (nest (goal.at.loop-at-preserved c).In-Open)) ∙ l.invariant.6),
     )
 
 pub overflow_add-at : goal.overflow_add-at
-overflow_add-at c = omega (arith, leaf-fits (goal.at.overflow_add-at c).In-Leaf-2)
+overflow_add-at c = omega (arith, leaf-fits (goal.at.overflow_add-at c).In-Leaf)
 
 pub slice_bounds-leaves-count : goal.slice_bounds-leaves-count
-slice_bounds-leaves-count c = omega (arith, leaf-fits (goal.at.slice_bounds-leaves-count c).In-Leaf-2)
+slice_bounds-leaves-count c = omega (arith, leaf-fits (goal.at.slice_bounds-leaves-count c).In-Leaf)
 
 pub slice_bounds-leaves-start : goal.slice_bounds-leaves-start
-slice_bounds-leaves-start c = omega (arith, leaf-fits (goal.at.slice_bounds-leaves-start c).In-Leaf-2)
+slice_bounds-leaves-start c = omega (arith, leaf-fits (goal.at.slice_bounds-leaves-start c).In-Leaf)
 
 pub overflow_add-run : goal.overflow_add-run
 overflow_add-run c = omega (arith, run_fits (goal.at.overflow_add-run c).After-leaves-run)
 
 pub counted-count-requires : goal.counted-count-requires
-counted-count-requires c = omega (arith, run_fits (goal.at.counted-count-requires c).After-leaves-run, leaf-fits (goal.at.counted-count-requires c).In-Leaf-2)
+counted-count-requires c = omega (arith, run_fits (goal.at.counted-count-requires c).After-leaves-run, leaf-fits (goal.at.counted-count-requires c).In-Leaf)
 
 pub overflow_add-at-in-Leaf : goal.overflow_add-at-in-Leaf
 overflow_add-at-in-Leaf c = omega (arith, run_fits (goal.at.overflow_add-at-in-Leaf c).After-leaves-run)
@@ -150,7 +150,7 @@ pub overflow_add-at-in-Leaf-2 : goal.overflow_add-at-in-Leaf-2
 overflow_add-at-in-Leaf-2 c = omega (arith, run_fits (goal.at.overflow_add-at-in-Leaf-2 c).After-leaves-run)
 
 pub loop-at-smaller-in-Leaf : goal.loop-at-smaller-in-Leaf
-loop-at-smaller-in-Leaf c = omega (arith, run_fits (goal.at.loop-at-smaller-in-Leaf c).After-leaves-run, leaf-fits (goal.at.loop-at-smaller-in-Leaf c).In-Leaf-2)
+loop-at-smaller-in-Leaf c = omega (arith, run_fits (goal.at.loop-at-smaller-in-Leaf c).After-leaves-run, leaf-fits (goal.at.loop-at-smaller-in-Leaf c).In-Leaf)
 
 pub counted-count-requires-in-Open : goal.counted-count-requires-in-Open
 counted-count-requires-in-Open c = omega arith
