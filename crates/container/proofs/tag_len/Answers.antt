@@ -1,0 +1,10 @@
+-- `container::tag_len` meets its contract. Assumes nothing.
+use borrow.Author.Rules.{rules}
+use borrow.Author.Tests.{lt-ltb, le-ltb}
+use Rattle.container.proofs.tag_len.Goals as goal
+
+pub returns-then-tag-lt256 : goal.returns-then-tag-lt256
+returns-then-tag-lt256 c = (rw (lt-ltb _ _ c.if-tag-lt256.true), search rules, search rules)
+
+pub returns : goal.returns
+returns c = (rw (le-ltb _ _ c.if-tag-lt256.false), search rules, search rules)
