@@ -44,23 +44,20 @@ place CertInfo = 13
 
 placed : (r : ValueRule) → get_or rules (place r) Free ≡ r
 unfolding rules
-placed r =
-    elim r [
-      | Free ↦ refl
-      | Fascn ↦ refl
-      | Uuid ↦ refl
-      | Expiry ↦ refl
-      | Model ↦ refl
-      | Application ↦ refl
-      | Policy ↦ refl
-      | Text ↦ refl
-      | Date ↦ refl
-      | Fingers ↦ refl
-      | Face ↦ refl
-      | Iris ↦ refl
-      | Certificate ↦ refl
-      | CertInfo ↦ refl
-    ]
+placed Free = refl
+placed Fascn = refl
+placed Uuid = refl
+placed Expiry = refl
+placed Model = refl
+placed Application = refl
+placed Policy = refl
+placed Text = refl
+placed Date = refl
+placed Fingers = refl
+placed Face = refl
+placed Iris = refl
+placed Certificate = refl
+placed CertInfo = refl
 
 same-rule : (r s : ValueRule) → eqb (place r) (place s) ≡ true → r ≡ s
 same-rule r s e = sym (placed r) ∙ ap (λ (n : ℕ). get_or rules n Free) (eqb-true (place r) (place s) e) ∙ placed s
