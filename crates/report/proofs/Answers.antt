@@ -52,7 +52,7 @@ module _ (kind today : ℕ) (c : List ℕ) (room : ℕ) where
   -- of a container that conforms, the report of its values
   pub conforming-output : Bytes c → (vs : Values) → Conforms kind today vs c → report_room ≤ room → report_output kind today c room ≡ text (report_text kind today (length c) (values vs))
   conforming-output b vs h l =
-      rw (conforms-parsed kind today c b vs h) at (report-0 ((kind-exact kind).1 h.kind_is) ((date-exact today).1 h.date_is) l h.size-is)
+      rw (conforms-parsed kind today c b vs h) at (report-0 ((kind-exact kind).1 h.kind_is) ((date-exact today).1 h.date_is) l h.size_is)
 
   -- all that a call can answer: a refusal without a place and a tag, or a whole report in a room that takes every one
   pub report-cases : (P : Output → Type 0) → ((f : Fault) → P (refusal (outright f))) → ((t : List ℕ) → report_room ≤ room → length t ≤ report_room → P (text t))

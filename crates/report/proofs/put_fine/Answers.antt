@@ -1,0 +1,16 @@
+-- `report::put_fine` meets its contract: its parts stand one after the other. Assumes nothing.
+use mathlib.Core.Path.{sym, ap}
+use borrow.Author.Rules.{rules}
+use Rattle.laws.proofs.Rooms.{then, same_text}
+use Rattle.kinds.specs.Tables.{table}
+use Rattle.elements.specs.Elements.{elements_part}
+use Rattle.elements.proofs.Shapes.{map-shape}
+use Rattle.report.specs.Report.{report_text}
+use Rattle.report.proofs.put_fine.Goals as goal
+
+pub returns : goal.returns
+unfolding report_text
+returns c =
+    let a = c.args in
+    let q = ap (elements_part (table a.kind)) (sym (map-shape a.kind a.map a.c.now c.requires.inside)) in
+    then (then c.put_card-at.ensures (same_text q c.put_elements-at.ensures)) c.put_open.ensures

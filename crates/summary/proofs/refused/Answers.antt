@@ -1,0 +1,6 @@
+-- `summary::refused` meets its contract. Assumes nothing.
+use borrow.Author.Rules.{rules}
+use Rattle.summary.proofs.refused.Goals as goal
+
+pub returns : goal.returns
+returns c = rw c.number_of.ensures
