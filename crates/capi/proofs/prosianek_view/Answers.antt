@@ -3,20 +3,15 @@ use mathlib.Core.Path.{ap, ◌∙◌}
 use borrow.Author.Rules.{rules}
 use Rattle.verdicts.specs.Verdicts.{tag_number}
 use Rattle.verdicts.specs.declared.Verdict.{Verdict}
-use Rattle.capi.proofs.prosianek_view.Statement.{statement}
-use Rattle.capi.proofs.prosianek_view.Tie as tie
+use Rattle.capi.proofs.prosianek_view.Goals as goal
 
-returns : tie.Need-returns
+pub returns : goal.returns
 returns c =
-    let n = c.before in
-    let l = n.before.before.locate.ensures in
+    let l = c.locate-part.ensures in
     record {
       number_is = ap (λ (v : Verdict). v.number) l.verdict_is;
       place_is = ap (λ (v : Verdict). v.place) l.verdict_is;
-      tag_is = n.tag-number.ensures ∙ ap (λ (v : Verdict). tag_number v.tag) l.verdict_is;
+      tag_is = c.tag_number.ensures ∙ ap (λ (v : Verdict). tag_number v.tag) l.verdict_is;
       offset_is = l.from_is;
       size_is = search rules;
     }
-
-pub prosianek_view_spec : {M : Type 1} → statement M
-prosianek_view_spec = tie.close (tie.spec (λ c κs. search rules) (λ c κs. search rules) (λ c. search rules) returns)

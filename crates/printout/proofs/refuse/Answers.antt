@@ -1,0 +1,7 @@
+-- `printout::refuse` meets its contract. Assumes nothing.
+use borrow.Author.Rules.{rules}
+use Rattle.printout.proofs.refuse.Goals as goal
+
+pub returns : goal.returns
+returns c =
+    rw c.clear.ensures at c.put_refused.ensures
