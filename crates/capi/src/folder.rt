@@ -5,8 +5,7 @@ ghost use Rattle.capi.specs.Folder.{CFolderSteps, CFolderEnds, CRows, CLasts};
 use pieces::State;
 use summary::Tally;
 
-#[unsafe(no_mangle)]
-pub extern "C" fn prosianek_folder_step(state: &mut [u64; 3], piece: &[u8])
+pub fn prosianek_folder_step(state: &mut [u64; 3], piece: &[u8])
     ensures { CFolderSteps state.old piece.now state.new }
 {
     let before = State {
@@ -18,8 +17,7 @@ pub extern "C" fn prosianek_folder_step(state: &mut [u64; 3], piece: &[u8])
     *state = [after.phase, after.value, after.left];
 }
 
-#[unsafe(no_mangle)]
-pub extern "C" fn prosianek_folder_end(today: u64, state: &[u64; 3]) -> u64
+pub fn prosianek_folder_end(today: u64, state: &[u64; 3]) -> u64
     ensures { CFolderEnds today state.now result }
 {
     prosianek::folder_end(
@@ -32,8 +30,7 @@ pub extern "C" fn prosianek_folder_end(today: u64, state: &[u64; 3]) -> u64
     )
 }
 
-#[unsafe(no_mangle)]
-pub extern "C" fn prosianek_row(
+pub fn prosianek_row(
     today: u64,
     kind: u8,
     offset: u64,
@@ -62,8 +59,7 @@ pub extern "C" fn prosianek_row(
     rowed.number
 }
 
-#[unsafe(no_mangle)]
-pub extern "C" fn prosianek_last(
+pub fn prosianek_last(
     good: u64,
     agreement: u64,
     room: &mut [u8],

@@ -1,16 +1,16 @@
-// The twelve calls for C, four of them in folder.rt: include/prosianek.h declares them. A slice is a pointer and a length there, a
-// lent number a pointer; each function answers 01's number. Each contract is one record of specs/Calls.antt.
+// The twelve calls for C, four of them in folder.rt: include/prosianek.h declares them, and the crate capi_c exports them. A slice is
+// a pointer and a length there, a lent number a pointer; each function answers 01's number. Each contract is one record of
+// specs/Calls.antt.
 #![tactic(auto)]
 
-mod folder;
+pub mod folder;
 
 ghost use Rattle.capi.specs.Calls.{CChecks, CWrites, CViews, CReports, CLists, CSigners, CDecodes, CEncodes};
 ghost use Rattle.points.specs.Calls.{five};
 
 use fascn::Numbers;
 
-#[unsafe(no_mangle)]
-pub extern "C" fn prosianek_check(
+pub fn prosianek_check(
     kind: u64,
     today: u64,
     container: &[u8],
@@ -32,8 +32,7 @@ pub extern "C" fn prosianek_check(
     verdict.number
 }
 
-#[unsafe(no_mangle)]
-pub extern "C" fn prosianek_write(
+pub fn prosianek_write(
     kind: u64,
     today: u64,
     sheet: &[u8],
@@ -53,8 +52,7 @@ pub extern "C" fn prosianek_write(
 }
 
 // The part is told by its offset in the container: no exported function hands out a reference.
-#[unsafe(no_mangle)]
-pub extern "C" fn prosianek_view(
+pub fn prosianek_view(
     kind: u64,
     today: u64,
     container: &[u8],
@@ -77,8 +75,7 @@ pub extern "C" fn prosianek_view(
 }
 
 // No refusal of a report has another place than 0, or a tag.
-#[unsafe(no_mangle)]
-pub extern "C" fn prosianek_report(
+pub fn prosianek_report(
     kind: u64,
     today: u64,
     container: &[u8],
@@ -92,8 +89,7 @@ pub extern "C" fn prosianek_report(
     done.number
 }
 
-#[unsafe(no_mangle)]
-pub extern "C" fn prosianek_lists(
+pub fn prosianek_lists(
     today: u64,
     container: &[u8],
     types: &mut [u64],
@@ -119,8 +115,7 @@ pub extern "C" fn prosianek_lists(
 }
 
 // The certificate is told by its offset in the container that is named, as the part of a view is.
-#[unsafe(no_mangle)]
-pub extern "C" fn prosianek_signer(
+pub fn prosianek_signer(
     kind: u64,
     today: u64,
     chuid: &[u8],
@@ -144,8 +139,7 @@ pub extern "C" fn prosianek_signer(
     verdict.number
 }
 
-#[unsafe(no_mangle)]
-pub extern "C" fn prosianek_fascn_decode(bytes: &[u8], numbers: &mut [u64; 9]) -> u64
+pub fn prosianek_fascn_decode(bytes: &[u8], numbers: &mut [u64; 9]) -> u64
     ensures { CDecodes bytes.now result numbers.new }
 {
     let d = prosianek::decode(bytes);
@@ -164,8 +158,7 @@ pub extern "C" fn prosianek_fascn_decode(bytes: &[u8], numbers: &mut [u64; 9]) -
     d.number
 }
 
-#[unsafe(no_mangle)]
-pub extern "C" fn prosianek_fascn_encode(numbers: &[u64; 9], room: &mut [u8]) -> u64
+pub fn prosianek_fascn_encode(numbers: &[u64; 9], room: &mut [u8]) -> u64
     ensures { CEncodes numbers.now room.old room.new result }
 {
     prosianek::encode(
