@@ -59,12 +59,7 @@ pub fn prosianek_row(
     rowed.number
 }
 
-pub fn prosianek_last(
-    good: u64,
-    agreement: u64,
-    room: &mut [u8],
-    length: &mut u64,
-) -> u64
+pub fn prosianek_last(good: u64, agreement: u64, room: &mut [u8], length: &mut u64) -> u64
     ensures { CLasts good agreement room.old room.new result length.new }
 {
     let done = prosianek::last(good, agreement, room);

@@ -85,17 +85,7 @@ pub extern "C" fn prosianek_lists(
     ensures { CLists today container.now (five types.old xs.old ys.old angles.old qualities.old) (five types.new xs.new ys.new angles.new qualities.new) result place.new tag.new first.new second.new }
 {
     capi::prosianek_lists(
-        today,
-        container,
-        types,
-        xs,
-        ys,
-        angles,
-        qualities,
-        place,
-        tag,
-        first,
-        second,
+        today, container, types, xs, ys, angles, qualities, place, tag, first, second,
     )
 }
 
@@ -113,7 +103,9 @@ pub extern "C" fn prosianek_signer(
 ) -> u64
     ensures { CSigners kind today chuid.now biometric.now result place.new tag.new which.new offset.new length.new }
 {
-    capi::prosianek_signer(kind, today, chuid, biometric, place, tag, which, offset, length)
+    capi::prosianek_signer(
+        kind, today, chuid, biometric, place, tag, which, offset, length,
+    )
 }
 
 #[unsafe(no_mangle)]
@@ -160,16 +152,7 @@ pub extern "C" fn prosianek_row(
     ensures { CRows today kind offset size container.now good.old agreement.old fascn.old room.old room.new good.new agreement.new fascn.new result length.new }
 {
     capi::folder::prosianek_row(
-        today,
-        kind,
-        offset,
-        size,
-        container,
-        good,
-        agreement,
-        fascn,
-        room,
-        length,
+        today, kind, offset, size, container, good, agreement, fascn, room, length,
     )
 }
 

@@ -1,6 +1,6 @@
 -- Request 2026-14, "The order's folder": "An order is a file of containers: a two-byte count, at most 256, then for each a kind byte, a four-byte length and the
 -- bytes, all big-endian, nothing after."
-use Rattle.std.specs.Prelude.{ℕ, ◌+◌, ◌^◌, ◌<◌, ◌≤◌, ◌≡◌, List, [], ◌∷◌, ◌++◌, length}
+use Rattle.std.specs.Prelude.{ℕ, ◌^◌, ◌<◌, ◌≤◌, ◌≡◌, List, [], ◌∷◌, ◌++◌, length}
 use Rattle.laws.specs.Bytes.{Bytes}
 use Rattle.laws.specs.Layout.{number}
 

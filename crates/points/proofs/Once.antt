@@ -9,12 +9,10 @@ use Rattle.laws.specs.Bytes.{Bytes}
 use Rattle.laws.proofs.Cases.{no-some}
 use Rattle.verdicts.specs.declared.Finding.{Finding}
 use Rattle.container.specs.Container.{Values, Conforms}
-use Rattle.container.specs.Reading.{Parsed, values, fault}
 use Rattle.container.specs.InOrder.{Named}
-use Rattle.container.proofs.Exact.{no-values}
 use Rattle.container.proofs.Forms.{AllBytes, conforming-bytes}
 use Rattle.container.proofs.Named.{one-finding, not_named}
-use Rattle.container.proofs.Promise.{exact, unique}
+use Rattle.container.proofs.Promise.{unique}
 use Rattle.points.specs.Points.{data_of, HasPoints}
 use Rattle.points.specs.Calls.{refused_by, Says, breaks, short, fits}
 use Rattle.points.specs.declared.Listed.{Listed}

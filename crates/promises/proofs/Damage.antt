@@ -4,7 +4,6 @@ use mathlib.Core.Path.{◌≡◌, ap, ◌∙◌}
 use mathlib.Core.List.{List}
 use lib.ListN.{length}
 use Rattle.fascn.specs.Fascn.{IsFascn}
-use Rattle.container.specs.Reading.{verdict}
 use Rattle.damage.specs.Damage.{bits}
 use Rattle.damage.proofs.Bits.{length-bits}
 use Rattle.damage.proofs.Refused.{damage-refused as none}

@@ -30,7 +30,7 @@ use Rattle.verdicts.specs.Output.{refusal, text, done_of}
 use Rattle.verdicts.proofs.Apart.{never-zero, told-apart, not-both}
 use Rattle.kinds.specs.Tables.{table}
 use Rattle.container.specs.Container.{Values, tag_bytes, long, container, Conforms}
-use Rattle.container.specs.Reading.{Parsed, fault, outcome_of, outcome, verdict}
+use Rattle.container.specs.Reading.{Parsed, outcome_of, outcome, verdict}
 use Rattle.container.specs.InOrder.{Named}
 use Rattle.container.proofs.Named.{named_back, named-exact}
 use Rattle.container.proofs.Promise.{exact, exactly_when, unique}

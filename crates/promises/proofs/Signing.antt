@@ -17,7 +17,7 @@ use Rattle.verdicts.specs.declared.Verdict.{Verdict}
 use Rattle.verdicts.proofs.Apart.{never-zero}
 use Rattle.der.specs.Der.{Item, der_bytes}
 use Rattle.blocks.proofs.Exact.{one_block, stands}
-use Rattle.container.specs.Reading.{Parsed, values, fault, parsed, outcome_of, outcome, verdict}
+use Rattle.container.specs.Reading.{Parsed, values, fault, parsed, outcome_of, outcome}
 use Rattle.container.specs.InOrder.{Named}
 use Rattle.container.proofs.Promise.{named}
 use Rattle.signer.specs.Signer.{Signed, refusal, found, InBlocks, own_none, own_holds, block_none, neither, block_holds, other, same, Says, no_biometric, chuid_breaks, biometric_breaks, both_conform, holder, Answers}

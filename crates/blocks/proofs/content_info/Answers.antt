@@ -1,8 +1,6 @@
 -- `blocks::content_info` meets its contract: a law for each way out. Assumes nothing.
 use mathlib.Core.Path.{sym, ◌∙◌}
 use native.Mathlib.Omega.{arith}
-use borrow.Author.Rules.{rules}
-use borrow.Author.Tests.{not-true, not-false}
 use Rattle.blocks.proofs.Wrapped.{other-id, more-items, no-data, more-data, all-around, same_id}
 use Rattle.blocks.proofs.content_info.Goals as goal
 

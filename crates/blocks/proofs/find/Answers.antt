@@ -1,6 +1,5 @@
 -- `blocks::find` meets its contract: a law for each way out. Assumes nothing.
 use native.Mathlib.Omega.{arith}
-use borrow.Author.Rules.{rules}
 use Rattle.blocks.proofs.Items.{at_end, other_tag, this-tag}
 use Rattle.blocks.proofs.find.Goals as goal
 

@@ -1,5 +1,4 @@
 -- `blocks::first` meets its contract: nothing is there, or an item. Assumes nothing.
-use borrow.Author.Rules.{rules}
 use Rattle.blocks.proofs.Items.{none_first, one-first}
 use Rattle.blocks.proofs.first.Goals as goal
 

@@ -4,7 +4,6 @@ use mathlib.Core.Path.{◌≡◌, sym, ◌∙◌}
 use mathlib.Core.List.{List}
 use native.Mathlib.Omega.{arith}
 use lib.ListN.{length}
-use borrow.Author.Rules.{rules}
 use Rattle.heads.specs.Head.{head_of}
 use Rattle.heads.specs.declared.Head.TheVariants.{Leaf, Open}
 use Rattle.heads.proofs.Heads.{leaf-inside, open-inside}

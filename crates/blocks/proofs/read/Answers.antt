@@ -1,6 +1,5 @@
 -- `blocks::read` meets its contract: no item, or an item that is told by its shape. Assumes nothing.
 use mathlib.Core.Path.{sym, ◌∙◌}
-use borrow.Author.Rules.{rules}
 use Rattle.laws.specs.Bytes.{Bytes}
 use Rattle.laws.proofs.Bases.{below_of}
 use Rattle.der.proofs.Exact.{not-bad, not-deep}

@@ -1,6 +1,5 @@
 -- `blocks::signed_data` meets its contract: a law for each way out. Assumes nothing.
 use native.Mathlib.Omega.{arith}
-use borrow.Author.Rules.{rules}
 use Rattle.blocks.proofs.Ways.{no-version, no-digests, no-content, no-signers, more-behind, all_there}
 use Rattle.blocks.proofs.signed_data.Goals as goal
 

@@ -8,7 +8,6 @@ use Rattle.verdicts.specs.declared.Tag.TheVariants.{NoTag}
 use Rattle.verdicts.specs.declared.Done.{Done}
 use Rattle.report.specs.Calls.{report_output}
 use Rattle.report.proofs.Answers.{names_nothing}
-use borrow.Author.Rules.{rules}
 use Rattle.capi.proofs.prosianek_report.Goals as goal
 
 placeless : (d : Done) {r : Done} → (d.place ≡ 0) × (d.tag ≡ NoTag) → r ≡ d → record { number = r.number; place = 0; tag = NoTag; length = r.length } ≡ d

@@ -1,7 +1,6 @@
 -- `capi::prosianek_signer` meets its contract: the numbers are those of the verdict and of the part. Assumes nothing.
 use mathlib.Core.Path.{ap, ◌∙◌}
 use native.Mathlib.Nat.{add-sub_cancel_left}
-use borrow.Author.Rules.{rules}
 use Rattle.verdicts.specs.Verdicts.{tag_number}
 use Rattle.signer.specs.declared.Located.{Located}
 use Rattle.signer.proofs.Handing.{ordered}

@@ -2,7 +2,6 @@
 use native.Mathlib.Omega.{arith}
 use Rattle.laws.proofs.Rooms.{then, same_room}
 use Rattle.card.specs.Card.{card_part}
-use borrow.Author.Rules.{rules}
 use Rattle.card.proofs.put_card.Goals as goal
 
 pub returns : goal.returns

@@ -2,7 +2,6 @@
 use mathlib.Core.List.{[]}
 use Rattle.kinds.proofs.Arms.{none-listed}
 use Rattle.card.specs.Card.{names}
-use borrow.Author.Rules.{rules}
 use Rattle.card.proofs.put_kind.Goals as goal
 
 pub returns-in-1 : goal.returns-in-1

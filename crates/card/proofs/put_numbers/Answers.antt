@@ -1,6 +1,5 @@
 -- `card::put_numbers` meets its contract: its pieces stand one after the other. Assumes nothing.
 use Rattle.laws.proofs.Rooms.{then}
-use borrow.Author.Rules.{rules}
 use Rattle.card.proofs.put_numbers.Goals as goal
 
 pub returns : goal.returns

@@ -1,5 +1,4 @@
 -- `card::put_tag` meets its contract: none, or a tag. Assumes nothing.
-use borrow.Author.Rules.{rules}
 use Rattle.card.proofs.put_tag.Goals as goal
 
 pub returns-in-NoTag : goal.returns-in-NoTag

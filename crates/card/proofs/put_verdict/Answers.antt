@@ -1,6 +1,5 @@
 -- `card::put_verdict` meets its contract: the one line of a container that conforms, or that of a broken rule. Assumes nothing.
 use Rattle.texts.specs.Text.{decimal}
-use borrow.Author.Rules.{rules}
 use Rattle.card.proofs.put_verdict.Goals as goal
 
 pub returns-in-Fine : goal.returns-in-Fine

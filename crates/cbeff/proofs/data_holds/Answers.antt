@@ -1,5 +1,4 @@
 -- `cbeff::data_holds` meets its contract. Assumes nothing.
-use borrow.Author.Rules.{rules}
 use Rattle.cbeff.proofs.data_holds.Goals as goal
 
 pub returns-in-Minutiae : goal.returns-in-Minutiae

@@ -3,8 +3,6 @@ use mathlib.Core.Path.{◌≡◌, sym, ◌∙◌}
 use mathlib.Core.Bool.{true}
 use mathlib.Core.List.{List}
 use Prim.Native.Nat.{ℕ}
-use borrow.Author.Rules.{rules}
-use borrow.Author.Tests.{not-true, not-false}
 use Rattle.laws.specs.Layout.{part}
 use Rattle.dates.specs.Moment.{is_moment}
 use Rattle.cbeff.proofs.Ways.{no-creation, no-from, no-to, all-dates}

@@ -1,5 +1,4 @@
 -- `cbeff::form_holds` meets its contract. Assumes nothing.
-use borrow.Author.Rules.{rules}
 use Rattle.cbeff.specs.Judged.{form_holds}
 use Rattle.cbeff.proofs.form_holds.Goals as goal
 

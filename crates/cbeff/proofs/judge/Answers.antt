@@ -6,8 +6,6 @@ use mathlib.Core.List.{List}
 use native.Mathlib.Nat.{add-sub_cancel_left, add-sub_cancel}
 use native.Mathlib.Omega.{arith}
 use lib.ListN.{length}
-use borrow.Author.Tests.{not-true, not-false}
-use borrow.Author.Rules.{rules}
 use Rattle.laws.specs.Layout.{field, part}
 use Rattle.fascn.specs.Reading.{is_fascn}
 use Rattle.cbeff.specs.Judged.{sizes_hold, dates_hold, form_holds}

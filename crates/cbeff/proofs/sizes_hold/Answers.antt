@@ -1,5 +1,4 @@
 -- `cbeff::sizes_hold` meets its contract. Assumes nothing.
-use borrow.Author.Rules.{rules}
 use Rattle.cbeff.specs.Judged.{sizes_hold}
 use Rattle.cbeff.proofs.sizes_hold.Goals as goal
 

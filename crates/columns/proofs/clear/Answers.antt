@@ -1,11 +1,8 @@
 -- `columns::clear` meets its contract. The loop's invariant: from the first entries on there are zeros, and behind them the list is as it was. Assumes nothing.
-use mathlib.Core.Path.{◌≡◌, refl, ◌∙◌}
-use mathlib.Core.List.{◌++◌}
-use Prim.Native.Nat.{◌≤◌, ◌<◌, ◌-◌}
+use mathlib.Core.Path.{refl, ◌∙◌}
+use Prim.Native.Nat.{◌<◌}
 use native.Mathlib.Omega.{arith}
-use borrow.Author.Rules.{rules}
-use lib.ListN.{length, take, drop, length-set}
-use Rattle.laws.specs.Room.{zeros}
+use lib.ListN.{length, length-set}
 use Rattle.columns.proofs.Filling.{zero-first, zero-next, zero-last}
 use Rattle.columns.proofs.clear.Goals as goal
 

@@ -1,12 +1,9 @@
 -- `columns::clear` meets its contract. The loop's invariant: from the first entries on there are zeros, and behind them the list is as it was. Assumes nothing.
-use mathlib.Core.Path.{◌≡◌, refl, ◌∙◌}
+use mathlib.Core.Path.{◌≡◌}
 use mathlib.Core.List.{◌++◌}
-use Prim.Native.Nat.{◌≤◌, ◌<◌, ◌-◌}
-use native.Mathlib.Omega.{arith}
-use borrow.Author.Rules.{rules}
-use lib.ListN.{length, take, drop, length-set}
+use Prim.Native.Nat.{◌≤◌, ◌-◌}
+use lib.ListN.{length, take, drop}
 use Rattle.laws.specs.Room.{zeros}
-use Rattle.columns.proofs.Filling.{zero-first, zero-next, zero-last}
 use Rattle.columns.proofs.clear.Given as goal
 
 abbrev pub invariant-loop-i : goal.invariant-loop-i

@@ -1,5 +1,4 @@
 -- `columns::clear_each` meets its contract. Assumes nothing.
-use borrow.Author.Rules.{rules}
 use Rattle.columns.proofs.clear_each.Goals as goal
 
 pub returns : goal.returns

@@ -1,7 +1,6 @@
 -- `columns::lists` meets its contract: the room is that of the shortest list, and what is put are the entries of the plan. Assumes nothing.
 use Prim.Native.Nat.{min}
 use mathlib.Core.Path.{ap, ◌∙◌}
-use borrow.Author.Rules.{rules}
 use Rattle.points.specs.Calls.{Five, five}
 use Rattle.points.specs.Places.{Plans}
 use Rattle.columns.specs.Columns.{shortest}

@@ -1,5 +1,4 @@
 -- `columns::put_point` meets its contract. Assumes nothing.
-use borrow.Author.Rules.{rules}
 use Rattle.columns.proofs.put_point.Goals as goal
 
 pub returns : goal.returns

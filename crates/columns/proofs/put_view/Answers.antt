@@ -3,11 +3,10 @@ use Prim.Native.Nat.{ℕ, ◌+◌, ◌*◌, ◌-◌, ◌%◌, ◌^◌, ◌<◌, 
 use mathlib.Core.Path.{◌≡◌, refl}
 use mathlib.Core.List.{List}
 use native.Mathlib.Omega.{arith}
-use borrow.Author.Rules.{rules}
 use lib.ListN.{length, set}
 use Rattle.points.specs.Calls.{Five, five, HoldsEach}
 use Rattle.points.specs.Places.{point_at}
-use Rattle.columns.proofs.Filling.{Put, put_first, put_next}
+use Rattle.columns.proofs.Filling.{put_first, put_next}
 use Rattle.columns.proofs.put_view.Goals as goal
 use Rattle.columns.proofs.put_view.Goals.{After-put_point, After-put_point-in-loop-i, After-slice_known-in-loop-i-10-1, At-loop-i, In-loop-i, Start, Then-i-count}
 use Rattle.columns.proofs.put_view.Invariants.{Puts}

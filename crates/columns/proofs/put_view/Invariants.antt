@@ -1,13 +1,10 @@
 -- `columns::put_view` meets its contract. The loop's invariant: i entries of each list are put, an even number. Assumes nothing.
-use Prim.Native.Nat.{ℕ, ◌+◌, ◌*◌, ◌-◌, ◌%◌, ◌^◌, ◌<◌, ◌≤◌}
-use mathlib.Core.Path.{◌≡◌, refl}
+use Prim.Native.Nat.{ℕ, ◌+◌, ◌*◌, ◌-◌, ◌%◌, ◌≤◌}
+use mathlib.Core.Path.{◌≡◌}
 use mathlib.Core.List.{List}
-use native.Mathlib.Omega.{arith}
-use borrow.Author.Rules.{rules}
-use lib.ListN.{length, set}
-use Rattle.points.specs.Calls.{Five, five, HoldsEach}
+use Rattle.points.specs.Calls.{Five, five}
 use Rattle.points.specs.Places.{point_at}
-use Rattle.columns.proofs.Filling.{Put, put_first, put_next}
+use Rattle.columns.proofs.Filling.{Put}
 use Rattle.columns.proofs.put_view.Given as goal
 
 -- i entries of each list are put

@@ -2,7 +2,6 @@
 use Prim.Native.Nat.{ℕ, ◌+◌}
 use mathlib.Core.Path.{◌≡◌, sym, ap, ◌∙◌}
 use lib.ListN.{get_or, drop}
-use borrow.Author.Rules.{rules}
 use Rattle.laws.proofs.Bases.{below_of}
 use Rattle.kinds.specs.Tables.{table, row_of}
 use Rattle.kinds.specs.declared.Row.TheVariants.{At}

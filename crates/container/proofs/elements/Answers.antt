@@ -1,11 +1,8 @@
 -- `container::elements` meets its contract. The loop's invariant: the map from here, over what is noted, is the map of the whole. Assumes nothing.
-use Prim.Native.Nat.{◌≤◌, ◌-◌}
-use mathlib.Core.Path.{◌≡◌, refl, ◌∙◌}
+use mathlib.Core.Path.{refl, ◌∙◌}
 use native.Mathlib.Omega.{arith}
-use lib.ListN.{length, length-set}
-use borrow.Author.Rules.{rules}
-use Rattle.laws.specs.Room.{zeros}
-use Rattle.container.specs.Map.{Inside, map_from, Steps}
+use lib.ListN.{length-set}
+use Rattle.container.specs.Map.{Steps}
 use Rattle.container.specs.declared.Step.TheVariants.{Next}
 use Rattle.container.proofs.Noting.{inside-first, inside-next}
 use Rattle.container.proofs.Turn.{cut_off, complete}
@@ -22,20 +19,22 @@ returns-in-Stop c =
     record { value = c.lost.ensures ∙ (rw c.in-Stop.is at c.element.ensures) c.loop-at.from c.loop-at.to ∙ c.loop-at.invariant.3; inside = rw c.lost.ensures (inside-first _) }
 
 pub loop-at-preserved : goal.loop-at-preserved
-loop-at-preserved c =
-    (
-      (stepped c).1.2,
-      simp length-set c.loop-at.invariant.1,
-      simp length-set c.loop-at.invariant.2,
-      (stepped c).0 c.loop-at.from c.loop-at.to ∙ c.loop-at.invariant.3,
-      inside-next c.loop-at.from c.loop-at.to _ _ _ _ c.loop-at.invariant.1 c.loop-at.invariant.2 (omega (arith, (stepped c).1)) (stepped c).1.1 (stepped c).1.2 c.loop-at.invariant.4,
-    )
+loop-at-preserved c = (
+  (stepped c).1.2,
+  simp length-set c.loop-at.invariant.1,
+  simp length-set c.loop-at.invariant.2,
+  (stepped c).0 c.loop-at.from c.loop-at.to ∙ c.loop-at.invariant.3,
+  inside-next c.loop-at.from c.loop-at.to _ _ _ _ c.loop-at.invariant.1 c.loop-at.invariant.2 (omega (arith, (stepped c).1)) (stepped c).1.1 (stepped c).1.2 c.loop-at.invariant.4,
+)
 
 pub returns-then-done-last_row : goal.returns-then-done-last_row
 returns-then-done-last_row c =
-    let a = c.args in record { value = c.lost-then-done-last_row.ensures
+    let a = c.args in record {
+      value = c.lost-then-done-last_row.ensures
           ∙ rw c.found.ensures
-          (cut_off a.kind a.today a.c.now _ c.loop-at.done c.loop-at.from c.loop-at.to c.loop-at-test.false c.last_row.ensures (omega arith) ∙ c.loop-at.invariant.3); inside = rw c.lost-then-done-last_row.ensures (inside-first _) }
+          (cut_off a.kind a.today a.c.now _ c.loop-at.done c.loop-at.from c.loop-at.to c.loop-at-test.false c.last_row.ensures (omega arith) ∙ c.loop-at.invariant.3);
+      inside = rw c.lost-then-done-last_row.ensures (inside-first _);
+    }
 
 pub returns : goal.returns
 returns c =

@@ -1,14 +1,9 @@
 -- `container::elements` meets its contract. The loop's invariant: the map from here, over what is noted, is the map of the whole. Assumes nothing.
 use Prim.Native.Nat.{◌≤◌, ◌-◌}
-use mathlib.Core.Path.{◌≡◌, refl, ◌∙◌}
-use native.Mathlib.Omega.{arith}
-use lib.ListN.{length, length-set}
-use borrow.Author.Rules.{rules}
+use mathlib.Core.Path.{◌≡◌}
+use lib.ListN.{length}
 use Rattle.laws.specs.Room.{zeros}
-use Rattle.container.specs.Map.{Inside, map_from, Steps}
-use Rattle.container.specs.declared.Step.TheVariants.{Next}
-use Rattle.container.proofs.Noting.{inside-first, inside-next}
-use Rattle.container.proofs.Turn.{cut_off, complete}
+use Rattle.container.specs.Map.{Inside, map_from}
 use Rattle.container.proofs.elements.Given as goal
 
 abbrev pub invariant-loop-at : goal.invariant-loop-at

@@ -1,6 +1,5 @@
 -- `container::outright` meets its contract. Assumes nothing.
 use mathlib.Core.Path.{ap, ◌∙◌}
-use borrow.Author.Rules.{rules}
 use Rattle.container.specs.Map.{lost}
 use Rattle.container.proofs.outright.Goals as goal
 

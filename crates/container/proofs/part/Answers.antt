@@ -1,6 +1,5 @@
 -- `container::part` meets its contract. Assumes nothing.
 use native.Mathlib.Omega.{arith}
-use borrow.Author.Rules.{rules}
 use Rattle.container.proofs.part.Goals as goal
 
 pub slice_bounds-result-count : goal.slice_bounds-result-count

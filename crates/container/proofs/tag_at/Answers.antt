@@ -1,6 +1,5 @@
 -- `container::tag_at` meets its contract: a law for each way out. Assumes nothing.
 use native.Mathlib.Omega.{arith}
-use borrow.Author.Rules.{rules}
 use Rattle.container.proofs.Tags.{other-kind, other-first, alone, other-second, long-tag}
 use Rattle.container.proofs.tag_at.Goals as goal
 

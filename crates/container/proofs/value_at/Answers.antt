@@ -5,8 +5,6 @@ use mathlib.Core.Bool.{true}
 use native.Mathlib.Nat.{add-sub_cancel_left}
 use native.Mathlib.Omega.{arith}
 use lib.ListN.{length, drop}
-use borrow.Author.Rules.{rules}
-use borrow.Author.Tests.{not-true, not-false}
 use Rattle.lengths.specs.Length.{length_at}
 use Rattle.lengths.specs.declared.Length.TheVariants.{Is}
 use Rattle.kinds.specs.Tables.{permits}

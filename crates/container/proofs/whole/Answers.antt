@@ -3,7 +3,6 @@ use Prim.Native.Nat.{◌≤◌}
 use mathlib.Core.Path.{◌≡◌, sym, ◌∙◌}
 use native.Mathlib.Omega.{arith}
 use lib.ListN.{length, get_or, drop}
-use borrow.Author.Rules.{rules}
 use Rattle.lengths.specs.Length.{length_at}
 use Rattle.lengths.specs.declared.Length.TheVariants.{Is}
 use Rattle.container.specs.Container.{outer_tag}

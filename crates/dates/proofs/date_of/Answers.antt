@@ -1,7 +1,5 @@
 -- `dates::date_of` meets its contract. Assumes nothing.
 use mathlib.Core.Path.{sym, ◌∙◌}
-use borrow.Author.Tests.{not-true, not-false}
-use borrow.Author.Rules.{rules}
 use Rattle.dates.proofs.Texts.{Four, text-long, text-found, text-refused}
 use Rattle.dates.proofs.date_of.Goals as goal
 use Rattle.dates.proofs.date_of.Goals.{After-two_digits-day}

@@ -1,5 +1,4 @@
 -- `dates::exists` meets its contract. Assumes nothing.
-use borrow.Author.Rules.{rules}
 use Rattle.dates.proofs.Calendars.{its-month-too}
 use Rattle.dates.proofs.exists.Goals as goal
 

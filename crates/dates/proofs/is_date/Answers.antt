@@ -1,5 +1,4 @@
 -- `dates::is_date` meets its contract. Assumes nothing.
-use borrow.Author.Rules.{rules}
 use Rattle.dates.specs.Date.{is_date}
 use Rattle.dates.proofs.is_date.Goals as goal
 

@@ -1,5 +1,4 @@
 -- `dates::is_moment` meets its contract. Assumes nothing.
-use borrow.Author.Rules.{rules}
 use Rattle.dates.proofs.Moments.{moment-long, moment-tested}
 use Rattle.dates.proofs.is_moment.Goals as goal
 

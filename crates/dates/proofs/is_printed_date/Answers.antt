@@ -1,6 +1,5 @@
 -- `dates::is_printed_date` meets its contract. Assumes nothing.
 use native.Mathlib.Omega.{arith}
-use borrow.Author.Rules.{rules}
 use Rattle.dates.proofs.Printed.{other_length, nine-read}
 use Rattle.dates.proofs.is_printed_date.Goals as goal
 

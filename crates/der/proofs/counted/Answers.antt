@@ -1,5 +1,4 @@
 -- `der::counted` meets its contract. Assumes nothing.
-use borrow.Author.Rules.{rules}
 use borrow.Author.Tests.{eq-eqb, ne_eqb}
 use Rattle.der.proofs.counted.Goals as goal
 

@@ -4,7 +4,6 @@ use mathlib.Core.Path.{◌≡◌, refl}
 use mathlib.Core.List.{List, [], ◌∷◌}
 use native.Mathlib.Omega.{arith}
 use lib.ListN.{length, get_or}
-use borrow.Author.Rules.{rules}
 use Rattle.der.proofs.first_byte.Goals as goal
 
 none : (v : List ℕ) → length v ≡ 0 → 0 ≡ get_or v 0 0

@@ -3,7 +3,6 @@ use Prim.Native.Nat.{ℕ}
 use mathlib.Core.Path.{◌≡◌, sym, ap, ◌∙◌}
 use mathlib.Core.List.{List}
 use native.Mathlib.Omega.{arith}
-use borrow.Author.Rules.{rules}
 use Rattle.heads.specs.Head.{head_of}
 use Rattle.heads.specs.declared.Head.TheVariants.{Leaf, Open}
 use Rattle.heads.proofs.Heads.{open-inside}

@@ -3,7 +3,6 @@ use Prim.Native.Nat.{ℕ}
 use mathlib.Core.Path.{◌≡◌, sym, ◌∙◌}
 use mathlib.Core.List.{List}
 use native.Mathlib.Omega.{arith}
-use borrow.Author.Rules.{rules}
 use Rattle.der.specs.Walk.{judged, depth_for}
 use Rattle.der.specs.declared.Walked.TheVariants.{Whole}
 use Rattle.der.proofs.Outer.{not-der, not-flat, other_tag, other-count, kept-one}

@@ -1,13 +1,11 @@
 -- `der::leaves` meets its contract. The invariant: what was passed over so far may be. Assumes nothing.
-use Prim.Native.Nat.{◌+◌, ◌-◌, ◌≤◌}
+use Prim.Native.Nat.{◌+◌, ◌≤◌}
 use mathlib.Core.Path.{◌≡◌}
 use native.Mathlib.Nat.{add-zero}
 use native.Mathlib.Omega.{arith}
 use lib.ListN.{length, get_or, drop, length-drop}
 use lib.Seq.{get_or-drop}
-use borrow.Author.Rules.{rules}
 use Rattle.heads.proofs.Heads.{short-leaf}
-use Rattle.der.specs.Walk.{PassesOver}
 use Rattle.der.proofs.Turns.{none_passed, one-passed}
 use Rattle.der.proofs.leaves.Goals as goal
 

@@ -1,16 +1,10 @@
 -- `der::parts` meets its contract. The invariant: the walk from here on is the walk of the whole, and each open item ends within the one around it.
 -- Each turn passes a byte at least or closes an item. Assumes nothing.
-use Prim.Native.Nat.{◌+◌, ◌-◌, ◌*◌, ◌<◌, ◌≤◌}
-use mathlib.Core.Path.{◌≡◌, refl, sym, ◌∙◌}
-use mathlib.Core.List.{[]}
-use native.Mathlib.Omega.{arith}
-use lib.ListN.{length, get_or, length-set}
-use borrow.Author.Rules.{rules}
-use Rattle.heads.specs.Head.{head_of}
-use Rattle.heads.specs.declared.Head.TheVariants.{Leaf, Open}
-use Rattle.heads.proofs.Heads.{leaf-inside, open-inside}
+use Prim.Native.Nat.{◌+◌, ◌-◌, ◌*◌, ◌≤◌}
+use mathlib.Core.Path.{◌≡◌}
+use lib.ListN.{length}
 use Rattle.der.specs.Walk.{items}
-use Rattle.der.proofs.Turns.{span, span-long, from, Nested, nested-inside, nested-on, tally-most, started, finished, closed, nested-closed, sunk, stopped, passed-by, opened, nested-opened}
+use Rattle.der.proofs.Turns.{span, from, Nested}
 use Rattle.der.proofs.parts.Given as goal
 
 abbrev pub invariant-loop-at : goal.invariant-loop-at

@@ -1,16 +1,11 @@
 -- `elements::element_count` meets its contract. The loop's invariant: the rows to come have the rest of the count. Assumes nothing.
-use Prim.Native.Nat.{ℕ, ◌+◌, ◌-◌, ◌≤◌, ◌<◌}
-use mathlib.Core.Path.{◌≡◌, ◌∙◌}
+use Prim.Native.Nat.{ℕ, ◌+◌, ◌-◌, ◌≤◌}
+use mathlib.Core.Path.{◌≡◌}
 use mathlib.Core.List.{List}
-use native.Mathlib.Nat.{zero-add, sub-zero}
-use native.Mathlib.Omega.{arith}
 use lib.ListN.{length}
-use borrow.Author.Rules.{rules}
 use Rattle.kinds.specs.Tables.{table}
-use Rattle.kinds.proofs.Every.{few-rows, last-is-all}
 use Rattle.elements.specs.Elements.{element_count}
 use Rattle.elements.specs.Map.{map_shape}
-use Rattle.elements.proofs.Lines.{count_none, count-some, count-end}
 use Rattle.elements.proofs.element_count.Given as goal
 
 abbrev pub invariant-loop-row : goal.invariant-loop-row

@@ -1,6 +1,5 @@
 -- `elements::put_element` meets its contract: its pieces stand one after the other. Assumes nothing.
 use Rattle.laws.proofs.Rooms.{then}
-use borrow.Author.Rules.{rules}
 use Rattle.elements.proofs.put_element.Goals as goal
 
 pub returns : goal.returns

@@ -1,6 +1,5 @@
 -- `elements::put_elements` meets its contract: the count, and the lines. Assumes nothing.
 use Rattle.laws.proofs.Rooms.{then}
-use borrow.Author.Rules.{rules}
 use Rattle.elements.proofs.put_elements.Goals as goal
 
 pub returns : goal.returns

@@ -1,15 +1,10 @@
 -- `elements::put_lines` meets its contract. The loop's invariant: of all lines those of the rows to come are left. Assumes nothing.
-use Prim.Native.Nat.{◌-◌, ◌≤◌, ◌<◌}
-use mathlib.Core.Path.{◌≡◌, refl, sym, ◌∙◌}
-use native.Mathlib.Nat.{sub-zero}
-use native.Mathlib.Omega.{arith}
+use Prim.Native.Nat.{◌-◌, ◌≤◌}
+use mathlib.Core.Path.{◌≡◌}
 use lib.ListN.{length}
-use borrow.Author.Rules.{rules}
-use Rattle.laws.proofs.Rooms.{Left, begin, same, step, ended}
-use Rattle.kinds.specs.Tables.{table, row_at}
-use Rattle.kinds.specs.declared.Slot.TheVariants.{Holds}
-use Rattle.kinds.proofs.Every.{few-rows}
-use Rattle.elements.proofs.Lines.{lines_from, row-there, lines_end, lines_none, lines-some}
+use Rattle.laws.proofs.Rooms.{Left}
+use Rattle.kinds.specs.Tables.{table}
+use Rattle.elements.proofs.Lines.{lines_from}
 use Rattle.elements.proofs.put_lines.Given as goal
 
 abbrev pub invariant-loop-tag : goal.invariant-loop-tag

@@ -1,8 +1,6 @@
 -- `facial::block` meets its contract. Assumes nothing.
 use mathlib.Core.Path.{sym, ◌∙◌}
 use native.Mathlib.Omega.{arith}
-use borrow.Author.Rules.{rules}
-use borrow.Author.Tests.{not-true, not-false}
 use Rattle.laws.proofs.Turns.{rest}
 use Rattle.facial.proofs.Ways.{too_short, no_room, cut_short, bad-image, takes}
 use Rattle.facial.proofs.block.Goals as goal

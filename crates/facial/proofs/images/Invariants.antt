@@ -1,16 +1,9 @@
 -- `facial::images` meets its contract. Assumes nothing.
-use Prim.Native.Nat.{ℕ, ◌-◌, ◌≤◌}
-use mathlib.Core.Path.{◌≡◌, refl, sym, ◌∙◌}
-use mathlib.Core.List.{List}
-use native.Mathlib.Omega.{arith}
-use borrow.Author.Rules.{rules}
-use lib.ListN.{length, drop}
-use Rattle.laws.proofs.Turns.{rest}
+use Prim.Native.Nat.{◌≤◌}
+use mathlib.Core.Path.{◌≡◌}
+use lib.ListN.{length}
 use Rattle.records.specs.Fills.{fills}
-use Rattle.records.specs.declared.Extent.TheVariants.{Takes}
-use Rattle.records.proofs.Ways.{fills-next, fills-not, fills-ended}
 use Rattle.facial.specs.Judged.{extent}
-use Rattle.facial.proofs.Told.{block_inside}
 use Rattle.facial.proofs.images.Given as goal
 
 abbrev pub invariant-loop-left : goal.invariant-loop-left

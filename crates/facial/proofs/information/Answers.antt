@@ -1,5 +1,4 @@
 -- `facial::information` meets its contract. Assumes nothing.
-use borrow.Author.Rules.{rules}
 use Rattle.facial.specs.Judged.{informed}
 use Rattle.facial.proofs.information.Goals as goal
 

@@ -1,8 +1,6 @@
 -- `facial::is_facial` meets its contract. Assumes nothing.
 use mathlib.Core.Path.{sym, ◌∙◌}
 use native.Mathlib.Omega.{arith}
-use borrow.Author.Rules.{rules}
-use borrow.Author.Tests.{not-true, not-false}
 use Rattle.records.proofs.Ways.{no_front, bad-front, by_parts}
 use Rattle.facial.specs.Judged.{extent, is_facial}
 use Rattle.facial.proofs.is_facial.Goals as goal

@@ -1,5 +1,4 @@
 -- `facial::record_head` meets its contract. Assumes nothing.
-use borrow.Author.Rules.{rules}
 use Rattle.facial.specs.Judged.{record_head}
 use Rattle.facial.proofs.record_head.Goals as goal
 

@@ -1,11 +1,10 @@
 -- `fascn::are_digits` meets its contract. The loop's invariant: what was found of the first i. Assumes nothing.
 use mathlib.Core.Path.{◌≡◌, refl}
-use Prim.Native.Nat.{◌-◌, ◌≤◌, ◌<◌}
+use Prim.Native.Nat.{◌<◌}
 use native.Mathlib.Omega.{arith}
-use lib.ListN.{length, length-drop, take, drop}
+use lib.ListN.{length, length-drop, drop}
 use lib.Seq.{get_or-drop}
 use borrow.Author.Rules.{rules}
-use Rattle.laws.specs.Tests.{each}
 use Rattle.laws.proofs.Turns.{each-taken}
 use Rattle.fascn.specs.Reading.{is_digit}
 use Rattle.fascn.proofs.are_digits.Goals as goal

@@ -1,12 +1,8 @@
 -- `fascn::are_digits` meets its contract. The loop's invariant: what was found of the first i. Assumes nothing.
-use mathlib.Core.Path.{◌≡◌, refl}
-use Prim.Native.Nat.{◌-◌, ◌≤◌, ◌<◌}
-use native.Mathlib.Omega.{arith}
-use lib.ListN.{length, length-drop, take, drop}
-use lib.Seq.{get_or-drop}
-use borrow.Author.Rules.{rules}
+use mathlib.Core.Path.{◌≡◌}
+use Prim.Native.Nat.{◌-◌, ◌≤◌}
+use lib.ListN.{take, drop}
 use Rattle.laws.specs.Tests.{each}
-use Rattle.laws.proofs.Turns.{each-taken}
 use Rattle.fascn.specs.Reading.{is_digit}
 use Rattle.fascn.proofs.are_digits.Given as goal
 

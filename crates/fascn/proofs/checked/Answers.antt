@@ -1,5 +1,4 @@
 -- `fascn::checked` meets its contract. Assumes nothing.
-use borrow.Author.Rules.{rules}
 use Rattle.fascn.proofs.Framing.{checked-set}
 use Rattle.fascn.proofs.checked.Goals as goal
 

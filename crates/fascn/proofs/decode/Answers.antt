@@ -1,8 +1,6 @@
 -- `fascn::decode` meets its contract: a law for each way out. Assumes nothing.
 use mathlib.Core.Path.{◌≡◌, sym, ap, ◌∙◌}
 use native.Mathlib.Omega.{arith}
-use borrow.Author.Rules.{rules}
-use borrow.Author.Tests.{not-true, not-false}
 use Rattle.laws.proofs.Bases.{below_of}
 use Rattle.fascn.specs.Reading.{values_of, framed, fields}
 use Rattle.fascn.specs.Calls.{success}

@@ -1,7 +1,6 @@
 -- `fascn::encode` meets its contract: a law for each way out. Assumes nothing.
 use mathlib.Core.Path.{sym, ap, ◌∙◌}
 use lib.ListN.{length}
-use borrow.Author.Rules.{rules}
 use borrow.Author.Tests.{lt-ltb, le-ltb}
 use Rattle.fascn.proofs.Answers.{encodes-7, encodes-3, encodes-0, front}
 use Rattle.fascn.proofs.Packing.{length-encoded}

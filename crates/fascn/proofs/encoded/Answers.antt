@@ -1,5 +1,4 @@
 -- `fascn::encoded` meets its contract. Assumes nothing.
-use borrow.Author.Rules.{rules}
 use Rattle.fascn.proofs.Packing.{encoded-groups}
 use Rattle.fascn.specs.Fascn.{characters}
 use Rattle.fascn.proofs.encoded.Goals as goal

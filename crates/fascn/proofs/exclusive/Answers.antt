@@ -1,8 +1,8 @@
 -- `fascn::exclusive` meets its contract. Assumes nothing.
 use mathlib.Core.Path.{◌≡◌, sym, ◌∙◌}
-use Prim.Native.Nat.{◌-◌, ◌≤◌, ◌<◌}
+use Prim.Native.Nat.{◌≤◌, ◌<◌}
 use native.Mathlib.Omega.{arith}
-use lib.ListN.{drop_of_length-le, length, drop}
+use lib.ListN.{drop_of_length-le, length}
 use borrow.Author.Rules.{rules}
 use Rattle.fascn.proofs.Framing.{exclusive-next}
 use Rattle.fascn.specs.Fascn.{exclusive}

@@ -1,10 +1,7 @@
 -- `fascn::exclusive` meets its contract. Assumes nothing.
-use mathlib.Core.Path.{◌≡◌, sym, ◌∙◌}
-use Prim.Native.Nat.{◌-◌, ◌≤◌, ◌<◌}
-use native.Mathlib.Omega.{arith}
-use lib.ListN.{drop_of_length-le, length, drop}
-use borrow.Author.Rules.{rules}
-use Rattle.fascn.proofs.Framing.{exclusive-next}
+use mathlib.Core.Path.{◌≡◌}
+use Prim.Native.Nat.{◌-◌, ◌≤◌}
+use lib.ListN.{drop}
 use Rattle.fascn.specs.Fascn.{exclusive}
 use Rattle.fascn.proofs.exclusive.Given as goal
 

@@ -1,5 +1,4 @@
 -- `fascn::fields` meets its contract. Assumes nothing.
-use borrow.Author.Rules.{rules}
 use Rattle.fascn.proofs.fields.Goals as goal
 
 pub returns : goal.returns

@@ -1,7 +1,6 @@
 -- `fascn::is_fascn` meets its contract. Assumes nothing.
 use mathlib.Core.Path.{ap, ◌∙◌}
 use native.Mathlib.Omega.{arith}
-use borrow.Author.Rules.{rules}
 use Rattle.laws.proofs.Bases.{below_of}
 use Rattle.fascn.specs.Reading.{framed}
 use Rattle.fascn.proofs.Packing.{values-read}

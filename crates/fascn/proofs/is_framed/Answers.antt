@@ -1,5 +1,4 @@
 -- `fascn::is_framed` meets its contract: the tests in their order. Assumes nothing.
-use borrow.Author.Rules.{rules}
 use Rattle.fascn.specs.Reading.{framed}
 use Rattle.fascn.proofs.is_framed.Goals as goal
 

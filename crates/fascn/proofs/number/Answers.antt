@@ -1,13 +1,12 @@
 -- `fascn::number` meets its contract. Assumes nothing.
 use mathlib.Core.Path.{◌≡◌, refl}
-use Prim.Native.Nat.{◌+◌, ◌-◌, ◌*◌, ◌^◌, ◌≤◌, ◌<◌}
+use Prim.Native.Nat.{◌<◌}
 use native.Mathlib.Nat.{pow-zero}
 use native.Mathlib.Omega.{arith}
-use lib.ListN.{length-drop, length, take, drop}
+use lib.ListN.{length-drop, length, drop}
 use lib.Seq.{get_or-drop}
 use borrow.Author.Rules.{rules}
 use Rattle.laws.proofs.Turns.{read_next, read_fits, pow-fits}
-use Rattle.laws.specs.Digits.{value}
 use Rattle.fascn.proofs.number.Goals as goal
 use Rattle.fascn.proofs.number.Goals.{Start}
 

@@ -1,12 +1,7 @@
 -- `fascn::number` meets its contract. Assumes nothing.
-use mathlib.Core.Path.{◌≡◌, refl}
-use Prim.Native.Nat.{◌+◌, ◌-◌, ◌*◌, ◌^◌, ◌≤◌, ◌<◌}
-use native.Mathlib.Nat.{pow-zero}
-use native.Mathlib.Omega.{arith}
-use lib.ListN.{length-drop, length, take, drop}
-use lib.Seq.{get_or-drop}
-use borrow.Author.Rules.{rules}
-use Rattle.laws.proofs.Turns.{read_next, read_fits, pow-fits}
+use mathlib.Core.Path.{◌≡◌}
+use Prim.Native.Nat.{◌+◌, ◌-◌, ◌*◌, ◌^◌, ◌≤◌}
+use lib.ListN.{take, drop}
 use Rattle.laws.specs.Digits.{value}
 use Rattle.fascn.proofs.number.Given as goal
 

@@ -1,6 +1,5 @@
 -- `fascn::origin_of` meets its contract. Assumes nothing.
 use native.Mathlib.Omega.{arith}
-use borrow.Author.Rules.{rules}
 use Rattle.laws.proofs.Bases.{below_of}
 use Rattle.fascn.proofs.Packing.{values-read}
 use Rattle.fascn.proofs.Codec.{no_origin, read-origin}

@@ -1,5 +1,4 @@
 -- `fascn::pack` meets its contract. Assumes nothing.
-use borrow.Author.Rules.{rules}
 use Rattle.laws.specs.Digits.{digits, stored, groups}
 use Rattle.fascn.proofs.pack.Goals as goal
 

@@ -1,11 +1,9 @@
 -- `fascn::put` meets its contract. Assumes nothing.
 use mathlib.Core.Path.{◌≡◌}
-use Prim.Native.Nat.{◌+◌, ◌-◌, ◌/◌, ◌^◌, ◌≤◌}
 use native.Mathlib.Nat.{sub-zero, add-zero, mod-lt}
 use native.Mathlib.Omega.{arith}
 use borrow.Author.Rules.{rules}
 use Rattle.laws.proofs.Turns.{put-none, rest-none, put_next, rest-next}
-use Rattle.laws.specs.Digits.{digits, stored}
 use Rattle.fascn.proofs.put.Goals as goal
 
 pub loop-i-init : goal.loop-i-init

@@ -1,10 +1,6 @@
 -- `fascn::put` meets its contract. Assumes nothing.
 use mathlib.Core.Path.{◌≡◌}
 use Prim.Native.Nat.{◌+◌, ◌-◌, ◌/◌, ◌^◌, ◌≤◌}
-use native.Mathlib.Nat.{sub-zero, add-zero, mod-lt}
-use native.Mathlib.Omega.{arith}
-use borrow.Author.Rules.{rules}
-use Rattle.laws.proofs.Turns.{put-none, rest-none, put_next, rest-next}
 use Rattle.laws.specs.Digits.{digits, stored}
 use Rattle.fascn.proofs.put.Given as goal
 

@@ -1,5 +1,4 @@
 -- `fascn::values` meets its contract. Assumes nothing.
-use borrow.Author.Rules.{rules}
 use Rattle.laws.specs.Digits.{digits, stored}
 use Rattle.fascn.specs.Fascn.{values}
 use Rattle.fascn.proofs.values.Goals as goal

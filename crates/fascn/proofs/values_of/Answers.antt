@@ -1,10 +1,10 @@
 -- `fascn::values_of` meets its contract. Assumes nothing.
 use mathlib.Core.Path.{◌≡◌, ◌∙◌}
-use Prim.Native.Nat.{◌-◌, ◌≤◌, ◌<◌}
+use Prim.Native.Nat.{◌≤◌, ◌<◌}
 use native.Mathlib.Omega.{arith}
 use lib.ListN.{length}
 use borrow.Author.Rules.{rules}
-use Rattle.laws.proofs.Turns.{mapped, mapped_next, mapped-all}
+use Rattle.laws.proofs.Turns.{mapped_next, mapped-all}
 use Rattle.fascn.specs.Reading.{value_of}
 use Rattle.fascn.proofs.values_of.Goals as goal
 use Rattle.fascn.proofs.values_of.Goals.{Start}

@@ -1,10 +1,7 @@
 -- `fascn::values_of` meets its contract. Assumes nothing.
-use mathlib.Core.Path.{◌≡◌, ◌∙◌}
-use Prim.Native.Nat.{◌-◌, ◌≤◌, ◌<◌}
-use native.Mathlib.Omega.{arith}
-use lib.ListN.{length}
-use borrow.Author.Rules.{rules}
-use Rattle.laws.proofs.Turns.{mapped, mapped_next, mapped-all}
+use mathlib.Core.Path.{◌≡◌}
+use Prim.Native.Nat.{◌-◌, ◌≤◌}
+use Rattle.laws.proofs.Turns.{mapped}
 use Rattle.fascn.specs.Reading.{value_of}
 use Rattle.fascn.proofs.values_of.Given as goal
 

@@ -1,7 +1,6 @@
 -- `heads::fitting` meets its contract. Assumes nothing.
 use Prim.Native.Nat.{◌+◌, ◌%◌}
 use native.Mathlib.Omega.{arith}
-use borrow.Author.Rules.{rules}
 use borrow.Author.Tests.{lt-ltb, le-ltb, le-leb, lt-leb, eq-eqb, ne_eqb}
 use Rattle.heads.proofs.fitting.Goals as goal
 

@@ -1,7 +1,6 @@
 -- `heads::front` meets its contract: a law of Heads for each way out. Assumes nothing.
 use mathlib.Core.Path.{◌∙◌}
 use native.Mathlib.Omega.{arith}
-use borrow.Author.Rules.{rules}
 use Rattle.heads.proofs.Heads.{too_short, one_byte}
 use Rattle.heads.proofs.front.Goals as goal
 

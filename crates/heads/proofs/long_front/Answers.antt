@@ -1,11 +1,10 @@
 -- `heads::long_front` meets its contract: a law of Heads for each way out. The invariant: n is the number of the first i bytes. Assumes nothing.
-use Prim.Native.Nat.{ℕ, ◌-◌, ◌≤◌}
+use Prim.Native.Nat.{ℕ, ◌-◌}
 use mathlib.Core.Path.{◌≡◌, ◌∙◌}
 use mathlib.Core.List.{List}
 use native.Mathlib.Omega.{arith}
 use lib.ListN.{take, drop, length-drop}
 use lib.Seq.{get_or-drop}
-use borrow.Author.Rules.{rules}
 use Rattle.laws.specs.Digits.{value}
 use Rattle.laws.proofs.Turns.{read_next}
 use Rattle.heads.proofs.Lengths.{Many}

@@ -1,8 +1,6 @@
 -- `iris::is_iris` meets its contract. Assumes nothing.
 use mathlib.Core.Path.{sym, ◌∙◌}
 use native.Mathlib.Omega.{arith}
-use borrow.Author.Rules.{rules}
-use borrow.Author.Tests.{not-true, not-false}
 use Rattle.records.proofs.Ways.{no_front, bad-front, by_parts}
 use Rattle.iris.specs.Judged.{extent_of, is_iris}
 use Rattle.iris.proofs.is_iris.Goals as goal

@@ -1,5 +1,4 @@
 -- `iris::record_head` meets its contract. Assumes nothing.
-use borrow.Author.Rules.{rules}
 use Rattle.iris.specs.Judged.{record_head}
 use Rattle.iris.proofs.record_head.Goals as goal
 

@@ -6,7 +6,6 @@ use native.Mathlib.Omega.{arith}
 use borrow.Author.Rules.{rules}
 use lib.ListN.{length, drop}
 use Rattle.laws.proofs.Turns.{rest}
-use Rattle.records.specs.Fills.{fills}
 use Rattle.records.specs.declared.Extent.TheVariants.{Takes}
 use Rattle.records.proofs.Ways.{fills-next, fills-not, fills-ended}
 use Rattle.iris.specs.Judged.{extent_of}

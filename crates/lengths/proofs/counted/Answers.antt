@@ -1,7 +1,6 @@
 -- `lengths::counted` meets its contract: a law of Reading for each way out. Assumes nothing.
 use Prim.Native.Nat.{◌<◌}
 use native.Mathlib.Omega.{arith}
-use borrow.Author.Rules.{rules}
 use Rattle.lengths.proofs.Reading.{short, small, several, four_bytes}
 use Rattle.lengths.proofs.counted.Goals as goal
 use Rattle.lengths.proofs.counted.Goals.{After-number-number}

@@ -1,6 +1,5 @@
 -- `lengths::read_length` meets its contract: a law of Reading for each way out. Assumes nothing.
 use native.Mathlib.Omega.{arith}
-use borrow.Author.Rules.{rules}
 use Rattle.lengths.proofs.Reading.{cut, one, other}
 use Rattle.lengths.proofs.read_length.Goals as goal
 

@@ -1,6 +1,5 @@
 -- `lengths::write_length` meets its contract: the bytes one after the other, each into the rest that is lent. Assumes nothing.
 use native.Mathlib.Omega.{arith}
-use borrow.Author.Rules.{rules}
 use Rattle.laws.proofs.Rooms.{then}
 use Rattle.lengths.proofs.Writing.{in_one, in_two, in_three}
 use Rattle.lengths.proofs.write_length.Goals as goal

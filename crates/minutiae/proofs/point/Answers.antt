@@ -1,5 +1,4 @@
 -- `minutiae::point` meets its contract. Assumes nothing.
-use borrow.Author.Rules.{rules}
 use Rattle.minutiae.specs.Judged.{point_holds}
 use Rattle.minutiae.proofs.point.Goals as goal
 

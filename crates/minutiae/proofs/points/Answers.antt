@@ -1,13 +1,10 @@
 -- `minutiae::points` meets its contract. Assumes nothing.
-use Prim.Native.Nat.{◌+◌, ◌*◌, ◌≤◌}
-use mathlib.Core.Path.{◌≡◌, sym, ◌∙◌}
+use mathlib.Core.Path.{sym, ◌∙◌}
 use native.Mathlib.Omega.{arith}
 use borrow.Author.Rules.{rules}
-use lib.ListN.{length, drop, length-drop}
-use borrow.Author.Tests.{not-true, not-false}
+use lib.ListN.{length-drop}
 use Rattle.laws.proofs.Turns.{rest}
 use Rattle.minutiae.proofs.Ways.{points-next, points-bad, points_none}
-use Rattle.minutiae.specs.Judged.{points_hold}
 use Rattle.minutiae.proofs.points.Goals as goal
 
 pub point-requires : goal.point-requires

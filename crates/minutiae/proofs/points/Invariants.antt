@@ -1,12 +1,7 @@
 -- `minutiae::points` meets its contract. Assumes nothing.
 use Prim.Native.Nat.{◌+◌, ◌*◌, ◌≤◌}
-use mathlib.Core.Path.{◌≡◌, sym, ◌∙◌}
-use native.Mathlib.Omega.{arith}
-use borrow.Author.Rules.{rules}
-use lib.ListN.{length, drop, length-drop}
-use borrow.Author.Tests.{not-true, not-false}
-use Rattle.laws.proofs.Turns.{rest}
-use Rattle.minutiae.proofs.Ways.{points-next, points-bad, points_none}
+use mathlib.Core.Path.{◌≡◌}
+use lib.ListN.{length, drop}
 use Rattle.minutiae.specs.Judged.{points_hold}
 use Rattle.minutiae.proofs.points.Given as goal
 

@@ -1,5 +1,4 @@
 -- `minutiae::record_head` meets its contract. Assumes nothing.
-use borrow.Author.Rules.{rules}
 use Rattle.minutiae.specs.Judged.{record_head}
 use Rattle.minutiae.proofs.record_head.Goals as goal
 

@@ -1,5 +1,4 @@
 -- `minutiae::view_head` meets its contract. Assumes nothing.
-use borrow.Author.Rules.{rules}
 use Rattle.minutiae.specs.Judged.{view_head}
 use Rattle.minutiae.proofs.view_head.Goals as goal
 

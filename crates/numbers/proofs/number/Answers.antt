@@ -1,12 +1,11 @@
 -- `numbers::number` meets its contract. Assumes nothing.
 use mathlib.Core.Path.{◌≡◌, refl}
-use Prim.Native.Nat.{◌-◌, ◌^◌, ◌≤◌, ◌<◌}
+use Prim.Native.Nat.{◌<◌}
 use native.Mathlib.Nat.{pow-zero}
 use native.Mathlib.Omega.{arith}
-use lib.ListN.{length-drop, length, take, drop}
+use lib.ListN.{length-drop, length, drop}
 use lib.Seq.{get_or-drop}
 use borrow.Author.Rules.{rules}
-use Rattle.laws.specs.Digits.{value}
 use Rattle.laws.proofs.Turns.{read_next, byte_fits, eight-bytes}
 use Rattle.numbers.proofs.number.Goals as goal
 

@@ -1,13 +1,8 @@
 -- `numbers::number` meets its contract. Assumes nothing.
-use mathlib.Core.Path.{◌≡◌, refl}
+use mathlib.Core.Path.{◌≡◌}
 use Prim.Native.Nat.{◌-◌, ◌^◌, ◌≤◌, ◌<◌}
-use native.Mathlib.Nat.{pow-zero}
-use native.Mathlib.Omega.{arith}
-use lib.ListN.{length-drop, length, take, drop}
-use lib.Seq.{get_or-drop}
-use borrow.Author.Rules.{rules}
+use lib.ListN.{take, drop}
 use Rattle.laws.specs.Digits.{value}
-use Rattle.laws.proofs.Turns.{read_next, byte_fits, eight-bytes}
 use Rattle.numbers.proofs.number.Given as goal
 
 abbrev pub invariant-loop-i : goal.invariant-loop-i

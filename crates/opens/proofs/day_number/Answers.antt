@@ -1,7 +1,6 @@
 -- `opens::day_number` meets its contract. Assumes nothing.
 use mathlib.Core.Path.{sym, ap, ◌∙◌}
 use Rattle.opens.specs.Day.{day_number}
-use borrow.Author.Rules.{rules}
 use Rattle.opens.proofs.day_number.Goals as goal
 
 pub returns-in-Is : goal.returns-in-Is

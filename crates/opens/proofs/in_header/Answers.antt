@@ -1,7 +1,6 @@
 -- `opens::in_header` meets its contract. Assumes nothing.
 use mathlib.Core.Path.{◌∙◌}
 use Rattle.opens.proofs.Opens.{no_header}
-use borrow.Author.Rules.{rules}
 use Rattle.opens.proofs.in_header.Goals as goal
 
 pub returns-then-v-lt84 : goal.returns-then-v-lt84

@@ -1,6 +1,5 @@
 -- `opens::put_biometric` meets its contract. Assumes nothing.
 use Rattle.opens.specs.Open.{open_part}
-use borrow.Author.Rules.{rules}
 use Rattle.opens.proofs.put_biometric.Goals as goal
 
 pub returns : goal.returns

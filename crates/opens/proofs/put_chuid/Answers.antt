@@ -1,7 +1,6 @@
 -- `opens::put_chuid` meets its contract: its lines stand one after the other. Assumes nothing.
 use Rattle.laws.proofs.Rooms.{then}
 use Rattle.opens.specs.Open.{open_part}
-use borrow.Author.Rules.{rules}
 use Rattle.opens.proofs.put_chuid.Goals as goal
 
 pub returns : goal.returns

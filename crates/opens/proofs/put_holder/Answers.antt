@@ -1,6 +1,5 @@
 -- `opens::put_holder` meets its contract: its lines stand one after the other. Assumes nothing.
 use Rattle.laws.proofs.Rooms.{then}
-use borrow.Author.Rules.{rules}
 use Rattle.opens.proofs.put_holder.Goals as goal
 
 pub returns : goal.returns

@@ -3,7 +3,6 @@ use mathlib.Core.List.{[], ◌∷◌, append_assoc}
 use Rattle.laws.proofs.Rooms.{then, same_text}
 use Rattle.texts.specs.Text.{ascii}
 use Rattle.opens.specs.Open.{open_part}
-use borrow.Author.Rules.{rules}
 use Rattle.opens.proofs.put_issuer.Goals as goal
 
 pub returns : goal.returns

@@ -1,6 +1,5 @@
 -- `opens::put_open` meets its contract: an arm for each kind. Assumes nothing.
 use mathlib.Core.Path.{ap}
-use borrow.Author.Rules.{rules}
 use Rattle.laws.specs.Bytes.{Bytes}
 use Rattle.laws.proofs.Bases.{below_of}
 use Rattle.laws.proofs.Rooms.{same_text}

@@ -4,7 +4,6 @@ use lib.ListN.{get_or}
 use Rattle.laws.proofs.Rooms.{then, same_text, first-apart}
 use Rattle.texts.specs.Text.{ascii, hex2}
 use Rattle.opens.specs.Open.{open_part}
-use borrow.Author.Rules.{rules}
 use Rattle.opens.proofs.put_policy.Goals as goal
 
 pub returns : goal.returns

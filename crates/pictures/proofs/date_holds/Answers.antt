@@ -1,5 +1,4 @@
 -- `pictures::date_holds` meets its contract. Assumes nothing.
-use borrow.Author.Rules.{rules}
 use Rattle.pictures.specs.Judged.{date_holds}
 use Rattle.pictures.proofs.date_holds.Goals as goal
 

@@ -1,5 +1,4 @@
 -- `pictures::image_holds` meets its contract. Assumes nothing.
-use borrow.Author.Rules.{rules}
 use Rattle.pictures.proofs.image_holds.Goals as goal
 
 pub returns : goal.returns

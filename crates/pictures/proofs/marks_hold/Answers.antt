@@ -1,5 +1,4 @@
 -- `pictures::marks_hold` meets its contract. Assumes nothing.
-use borrow.Author.Rules.{rules}
 use Rattle.pictures.specs.Judged.{marks_hold}
 use Rattle.pictures.proofs.marks_hold.Goals as goal
 

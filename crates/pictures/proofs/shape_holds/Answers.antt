@@ -1,5 +1,4 @@
 -- `pictures::shape_holds` meets its contract. Assumes nothing.
-use borrow.Author.Rules.{rules}
 use Rattle.pictures.specs.Judged.{shape_holds}
 use Rattle.pictures.proofs.shape_holds.Goals as goal
 

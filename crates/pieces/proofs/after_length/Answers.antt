@@ -1,6 +1,5 @@
 -- `pieces::after_length` meets its contract. Assumes nothing.
 use borrow.Author.Tests.{eq-eqb, ne_eqb}
-use borrow.Author.Rules.{rules}
 use Rattle.pieces.proofs.after_length.Goals as goal
 
 pub returns-then-n-eq0 : goal.returns-then-n-eq0

@@ -1,7 +1,6 @@
 -- `pieces::finish` meets its contract. Assumes nothing.
 use mathlib.Core.Path.{sym, ◌∙◌}
-use borrow.Author.Tests.{eq-eqb, ne_eqb, not-true, not-false}
-use borrow.Author.Rules.{rules}
+use borrow.Author.Tests.{eq-eqb, ne_eqb}
 use Rattle.pieces.proofs.finish.Goals as goal
 
 pub returns-then-not-is_date : goal.returns-then-not-is_date

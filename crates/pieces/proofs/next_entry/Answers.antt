@@ -1,6 +1,5 @@
 -- `pieces::next_entry` meets its contract. Assumes nothing.
 use borrow.Author.Tests.{le-leb, lt-leb}
-use borrow.Author.Rules.{rules}
 use Rattle.pieces.proofs.next_entry.Goals as goal
 
 pub returns-then-left-le1 : goal.returns-then-left-le1

@@ -2,7 +2,6 @@
 use mathlib.Core.Path.{◌∙◌}
 use native.Mathlib.Omega.{arith}
 use Rattle.pieces.proofs.Laws.{in-1, in-number, in-6, in-7, in-8}
-use borrow.Author.Rules.{rules}
 use Rattle.pieces.proofs.one_byte.Goals as goal
 
 pub returns-then-phase-eq1 : goal.returns-then-phase-eq1

@@ -1,9 +1,6 @@
 -- `pieces::step` meets its contract. The loop's invariant: the state at the piece's end, from here, is that of the whole. Assumes nothing.
-use Prim.Native.Nat.{◌-◌, ◌≤◌}
-use mathlib.Core.Path.{◌≡◌, refl, ◌∙◌}
+use mathlib.Core.Path.{refl, ◌∙◌}
 use native.Mathlib.Omega.{arith}
-use lib.ListN.{length, drop}
-use Rattle.pieces.specs.Pieces.{over}
 use Rattle.pieces.proofs.Laws.{ended}
 use Rattle.pieces.proofs.step.Goals as goal
 

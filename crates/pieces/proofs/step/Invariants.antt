@@ -1,10 +1,8 @@
 -- `pieces::step` meets its contract. The loop's invariant: the state at the piece's end, from here, is that of the whole. Assumes nothing.
 use Prim.Native.Nat.{◌-◌, ◌≤◌}
-use mathlib.Core.Path.{◌≡◌, refl, ◌∙◌}
-use native.Mathlib.Omega.{arith}
+use mathlib.Core.Path.{◌≡◌}
 use lib.ListN.{length, drop}
 use Rattle.pieces.specs.Pieces.{over}
-use Rattle.pieces.proofs.Laws.{ended}
 use Rattle.pieces.proofs.step.Given as goal
 
 abbrev pub invariant-loop-i : goal.invariant-loop-i

@@ -9,7 +9,6 @@ use Rattle.laws.specs.Bytes.{Bytes}
 use Rattle.laws.proofs.Bases.{below_of}
 use Rattle.laws.proofs.Cases.{and-true}
 use Rattle.pieces.proofs.Laws.{jumps, lands, opens, byte}
-use borrow.Author.Rules.{rules}
 use Rattle.pieces.proofs.turn.Goals as goal
 use Rattle.pieces.proofs.turn.Goals.{After-shared_slice_known-1, Then-phase-room}
 

@@ -1,7 +1,6 @@
 -- `plain::at` meets its contract. Assumes nothing.
 use mathlib.Core.Path.{sym}
 use lib.ListN.{get_or-eq_default}
-use borrow.Author.Rules.{rules}
 use Rattle.plain.proofs.at.Goals as goal
 
 pub returns-then-s-i : goal.returns-then-s-i

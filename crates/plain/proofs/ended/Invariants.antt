@@ -1,12 +1,8 @@
 -- `plain::ended` meets its contract. The loop's invariant: the bytes from i on are ended exactly where all are. Assumes nothing.
 use Prim.Native.Nat.{◌-◌, ◌≤◌}
-use mathlib.Core.Path.{◌≡◌, refl, sym, ◌∙◌}
-use native.Mathlib.Omega.{arith}
+use mathlib.Core.Path.{◌≡◌}
 use lib.ListN.{length, drop}
-use borrow.Author.Rules.{rules}
-use borrow.Author.Tests.{not-true, not-false}
 use Rattle.plain.specs.Plain.{ended}
-use Rattle.plain.proofs.Creators.{ended-none, ended_here, ended-stop, ended-next}
 use Rattle.plain.proofs.ended.Given as goal
 
 abbrev pub invariant-loop-i : goal.invariant-loop-i

@@ -1,5 +1,4 @@
 -- `plain::is_policy` meets its contract. Assumes nothing.
-use borrow.Author.Rules.{rules}
 use Rattle.plain.specs.Plain.{is_policy}
 use Rattle.plain.proofs.is_policy.Goals as goal
 

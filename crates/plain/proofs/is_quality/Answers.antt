@@ -1,6 +1,5 @@
 -- `plain::is_quality` meets its contract. Assumes nothing.
 use native.Mathlib.Omega.{arith}
-use borrow.Author.Rules.{rules}
 use Rattle.plain.proofs.SignedByte.{quality}
 use Rattle.plain.proofs.is_quality.Goals as goal
 

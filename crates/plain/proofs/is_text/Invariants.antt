@@ -1,13 +1,10 @@
 -- `plain::is_text` meets its contract. The loop's invariant: all bytes are text exactly where those before i were and those from i on are. Assumes
 -- nothing.
 use Prim.Native.Nat.{◌-◌, ◌≤◌}
-use mathlib.Core.Path.{◌≡◌, refl, ◌∙◌}
+use mathlib.Core.Path.{◌≡◌}
 use mathlib.Core.Bool.{◌&&◌}
-use native.Mathlib.Omega.{arith}
 use lib.ListN.{length, drop}
-use borrow.Author.Rules.{rules}
-use Rattle.plain.specs.Plain.{is_printed, is_text}
-use Rattle.laws.proofs.Scans.{each-end, each_turn}
+use Rattle.plain.specs.Plain.{is_text}
 use Rattle.plain.proofs.is_text.Given as goal
 
 abbrev pub invariant-loop-i : goal.invariant-loop-i

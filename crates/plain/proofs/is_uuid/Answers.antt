@@ -1,5 +1,4 @@
 -- `plain::is_uuid` meets its contract. Assumes nothing.
-use borrow.Author.Rules.{rules}
 use Rattle.plain.specs.Plain.{is_uuid}
 use Rattle.plain.proofs.is_uuid.Goals as goal
 

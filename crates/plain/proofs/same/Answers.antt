@@ -1,10 +1,7 @@
 -- `plain::same` meets its contract. The loop's invariant: the lists are the same from i on exactly where they are from the front. Assumes nothing.
-use Prim.Native.Nat.{◌-◌, ◌≤◌}
-use mathlib.Core.Path.{◌≡◌, refl, ◌∙◌}
+use mathlib.Core.Path.{refl, ◌∙◌}
 use native.Mathlib.Omega.{arith}
-use lib.ListN.{length, drop}
 use borrow.Author.Rules.{rules}
-use Rattle.laws.specs.Tests.{same}
 use Rattle.laws.proofs.Scans.{same-long, same_end, same_stop, same_next}
 use Rattle.plain.proofs.same.Goals as goal
 

@@ -1,11 +1,8 @@
 -- `plain::same` meets its contract. The loop's invariant: the lists are the same from i on exactly where they are from the front. Assumes nothing.
 use Prim.Native.Nat.{◌-◌, ◌≤◌}
-use mathlib.Core.Path.{◌≡◌, refl, ◌∙◌}
-use native.Mathlib.Omega.{arith}
+use mathlib.Core.Path.{◌≡◌}
 use lib.ListN.{length, drop}
-use borrow.Author.Rules.{rules}
 use Rattle.laws.specs.Tests.{same}
-use Rattle.laws.proofs.Scans.{same-long, same_end, same_stop, same_next}
 use Rattle.plain.proofs.same.Given as goal
 
 abbrev pub invariant-loop-i : goal.invariant-loop-i

@@ -1,6 +1,5 @@
 -- `plain::signed` meets its contract. Assumes nothing.
 use native.Mathlib.Omega.{arith}
-use borrow.Author.Rules.{rules}
 use Rattle.plain.proofs.SignedByte.{returned-low, fits, returned-high}
 use Rattle.plain.proofs.signed.Goals as goal
 

@@ -3,7 +3,6 @@ use Prim.Native.Nat.{◌+◌, ◌*◌, ◌≤◌}
 use mathlib.Core.Path.{sym, ◌∙◌}
 use lib.ListN.{length}
 use native.Mathlib.Omega.{arith}
-use borrow.Author.Rules.{rules}
 use Rattle.points.proofs.Entries.{entry_first, entry-second, entry_past, within_first, within-second}
 use Rattle.points.proofs.entry.Goals as goal
 use Rattle.points.proofs.entry.Goals.{After-struct_known-then-i-plan-1, After-struct_known-then-i-plan-2-1}

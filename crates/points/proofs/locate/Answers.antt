@@ -5,7 +5,6 @@ use Rattle.laws.proofs.Bases.{below_of}
 use Rattle.verdicts.specs.Verdicts.{verdict_of}
 use Rattle.container.proofs.Lying.{read-broken}
 use Rattle.points.proofs.Ways.{out-broken, stand, out-fine}
-use borrow.Author.Rules.{rules}
 use Rattle.points.proofs.locate.Goals as goal
 use Rattle.points.proofs.locate.Goals.{After-shared_slice_known-1}
 

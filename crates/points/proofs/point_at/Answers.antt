@@ -1,5 +1,4 @@
 -- `points::point_at` meets its contract. Assumes nothing.
-use borrow.Author.Rules.{rules}
 use Rattle.points.proofs.point_at.Goals as goal
 
 pub returns : goal.returns

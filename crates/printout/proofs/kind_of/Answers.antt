@@ -1,5 +1,4 @@
 -- `printout::kind_of` meets its contract. Assumes nothing.
-use borrow.Author.Rules.{rules}
 use Rattle.printout.proofs.Ways.{no-pair, lows, pair_is}
 use Rattle.printout.proofs.kind_of.Goals as goal
 

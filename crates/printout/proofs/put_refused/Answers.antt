@@ -1,5 +1,4 @@
 -- `printout::put_refused` meets its contract: its pieces stand one after the other. Assumes nothing.
-use borrow.Author.Rules.{rules}
 use Rattle.laws.proofs.Rooms.{then}
 use Rattle.printout.specs.Printout.{refused_text}
 use Rattle.printout.proofs.put_refused.Goals as goal

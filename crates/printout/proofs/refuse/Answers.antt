@@ -1,5 +1,4 @@
 -- `printout::refuse` meets its contract. Assumes nothing.
-use borrow.Author.Rules.{rules}
 use Rattle.printout.proofs.refuse.Goals as goal
 
 pub returns : goal.returns

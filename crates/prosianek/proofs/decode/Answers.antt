@@ -1,6 +1,5 @@
 -- `prosianek::decode` meets its contract. Assumes nothing.
 use Rattle.laws.proofs.Bases.{below_of}
-use borrow.Author.Rules.{rules}
 use Rattle.prosianek.proofs.Decoding.{is-decoded}
 use Rattle.prosianek.proofs.decode.Goals as goal
 

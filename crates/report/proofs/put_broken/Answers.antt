@@ -1,5 +1,4 @@
 -- `report::put_broken` meets its contract: its parts stand one after the other. Assumes nothing.
-use borrow.Author.Rules.{rules}
 use Rattle.laws.proofs.Rooms.{then}
 use Rattle.report.specs.Report.{report_text}
 use Rattle.report.proofs.put_broken.Goals as goal

@@ -1,6 +1,5 @@
 -- `report::put_fine` meets its contract: its parts stand one after the other. Assumes nothing.
 use mathlib.Core.Path.{sym, ap}
-use borrow.Author.Rules.{rules}
 use Rattle.laws.proofs.Rooms.{then, same_text}
 use Rattle.kinds.specs.Tables.{table}
 use Rattle.elements.specs.Elements.{elements_part}

@@ -1,6 +1,5 @@
 -- `report::put_report` meets its contract: the report of what the map shows, which is what was read. Assumes nothing.
 use mathlib.Core.Path.{◌≡◌, sym, ap}
-use borrow.Author.Rules.{rules}
 use lib.ListN.{length}
 use Rattle.laws.specs.Bytes.{Bytes}
 use Rattle.laws.proofs.Bases.{below_of}

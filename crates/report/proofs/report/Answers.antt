@@ -5,7 +5,7 @@ use mathlib.Core.Bool.{true}
 use native.Mathlib.Nat.{le_trans}
 use native.Mathlib.Omega.{arith}
 use lib.ListN.{length}
-use borrow.Author.Tests.{not-true, not-false, ltb-true, ltb-false}
+use borrow.Author.Tests.{ltb-true, ltb-false}
 use Rattle.dates.specs.Date.{is_date}
 use Rattle.kinds.specs.Tables.{is_kind}
 use Rattle.verdicts.proofs.Outputs.{refuses, gives}
@@ -14,7 +14,6 @@ use Rattle.container.proofs.Promise.{kind-exact}
 use Rattle.report.specs.Calls.{report_room}
 use Rattle.report.proofs.Answers.{report-1, report-2, report-3, report-4, report-0}
 use Rattle.report.proofs.Bound.{never-over}
-use borrow.Author.Rules.{rules}
 use Rattle.report.proofs.report.Goals as goal
 use Rattle.report.proofs.report.Goals.{Else-not-is_date, Else-not-is_kind, Else-too_large}
 

@@ -1,12 +1,10 @@
 -- `room::clear` meets its contract. The loop's invariant: the first i bytes are zeros, and the others as they were. Assumes nothing.
 use mathlib.Core.Path.{◌≡◌, refl, ◌∙◌}
-use mathlib.Core.List.{◌++◌, append-nil}
-use Prim.Native.Nat.{◌≤◌, ◌<◌, ◌-◌}
+use mathlib.Core.List.{append-nil}
+use Prim.Native.Nat.{◌<◌}
 use native.Mathlib.Omega.{arith}
-use borrow.Author.Rules.{rules}
 use borrow.Author.Fill.{fill_more}
-use lib.ListN.{length, drop, length-set}
-use Rattle.laws.specs.Room.{zeros}
+use lib.ListN.{length, length-set}
 use lib.Seq.{drop-length}
 use Rattle.room.proofs.clear.Goals as goal
 

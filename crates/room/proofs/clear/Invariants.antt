@@ -1,13 +1,9 @@
 -- `room::clear` meets its contract. The loop's invariant: the first i bytes are zeros, and the others as they were. Assumes nothing.
-use mathlib.Core.Path.{◌≡◌, refl, ◌∙◌}
-use mathlib.Core.List.{◌++◌, append-nil}
-use Prim.Native.Nat.{◌≤◌, ◌<◌, ◌-◌}
-use native.Mathlib.Omega.{arith}
-use borrow.Author.Rules.{rules}
-use borrow.Author.Fill.{fill_more}
-use lib.ListN.{length, drop, length-set}
+use mathlib.Core.Path.{◌≡◌}
+use mathlib.Core.List.{◌++◌}
+use Prim.Native.Nat.{◌≤◌, ◌-◌}
+use lib.ListN.{length, drop}
 use Rattle.laws.specs.Room.{zeros}
-use lib.Seq.{drop-length}
 use Rattle.room.proofs.clear.Given as goal
 
 abbrev pub invariant-loop-i : goal.invariant-loop-i

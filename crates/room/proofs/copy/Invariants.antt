@@ -1,11 +1,8 @@
 -- `room::copy` meets its contract. The loop's invariant: the first i bytes are those of s, and the others as they were. Assumes nothing.
-use mathlib.Core.Path.{◌≡◌, refl, ◌∙◌}
+use mathlib.Core.Path.{◌≡◌}
 use mathlib.Core.List.{◌++◌}
-use Prim.Native.Nat.{◌≤◌, ◌<◌, ◌-◌}
-use native.Mathlib.Omega.{arith}
-use lib.ListN.{length, take, drop, length-set}
-use borrow.Author.Rules.{rules}
-use Rattle.laws.proofs.Turns.{copied_next}
+use Prim.Native.Nat.{◌≤◌, ◌-◌}
+use lib.ListN.{length, take, drop}
 use Rattle.room.proofs.copy.Given as goal
 
 abbrev pub invariant-loop-i : goal.invariant-loop-i

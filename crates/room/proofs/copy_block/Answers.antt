@@ -4,7 +4,6 @@ use mathlib.Core.Logic.{⊎_elim}
 use Prim.Native.Nat.{◌≤◌}
 use native.Mathlib.Omega.{arith}
 use lib.ListN.{length}
-use borrow.Author.Rules.{rules}
 use Rattle.room.proofs.Blocks.{through}
 use Rattle.room.proofs.copy_block.Goals as goal
 

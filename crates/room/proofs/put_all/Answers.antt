@@ -1,9 +1,8 @@
 -- `room::put_all` meets its contract. The loop's invariant: the first bytes are those of s, and the others as they were. Assumes nothing.
 use mathlib.Core.Path.{◌≡◌, refl}
-use mathlib.Core.List.{◌++◌}
-use Prim.Native.Nat.{◌≤◌, ◌-◌}
+use Prim.Native.Nat.{◌≤◌}
 use native.Mathlib.Omega.{arith}
-use lib.ListN.{length, take, drop}
+use lib.ListN.{length}
 use borrow.Author.Rules.{rules}
 use Rattle.laws.proofs.Rooms.{copied}
 use Rattle.room.proofs.Blocks.{block-next}

@@ -1,5 +1,4 @@
 -- `room::put_byte` meets its contract. Assumes nothing.
-use borrow.Author.Rules.{rules}
 use Rattle.laws.proofs.Rooms.{byte-out, byte-in}
 use Rattle.room.proofs.put_byte.Goals as goal
 

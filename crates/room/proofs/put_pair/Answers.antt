@@ -1,5 +1,4 @@
 -- `room::put_pair` meets its contract. Assumes nothing.
-use borrow.Author.Rules.{rules}
 use native.Mathlib.Omega.{arith}
 use Rattle.laws.proofs.Rooms.{pair-in, pair-cut}
 use Rattle.room.proofs.put_pair.Goals as goal

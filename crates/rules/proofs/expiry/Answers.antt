@@ -1,5 +1,4 @@
 -- `rules::expiry` meets its contract. Assumes nothing.
-use borrow.Author.Rules.{rules}
 use Rattle.rules.proofs.expiry.Goals as goal
 
 pub returns-in-Is : goal.returns-in-Is

@@ -1,5 +1,4 @@
 -- `rules::judge` meets its contract: an arm for each rule. Assumes nothing.
-use borrow.Author.Rules.{rules}
 use Rattle.laws.proofs.Turns.{rest}
 use Rattle.rules.specs.Rules.{rule_of}
 use Rattle.rules.proofs.judge.Goals as goal

@@ -1,14 +1,11 @@
 -- `sections::judge_rows` meets its contract. The loop's invariant: what the rows come to from here, after what was added up, is what all come to. Assumes nothing.
-use Prim.Native.Nat.{◌+◌, ◌*◌, ◌-◌, ◌≤◌}
-use mathlib.Core.Path.{◌≡◌, refl, sym, ◌∙◌}
+use Prim.Native.Nat.{◌≤◌}
+use mathlib.Core.Path.{refl, sym, ◌∙◌}
 use native.Mathlib.Omega.{arith}
 use lib.ListN.{length, get_or}
-use borrow.Author.Rules.{rules}
-use borrow.Author.Tests.{not-true, not-false}
 use Rattle.laws.proofs.Layouts.{part-long}
-use Rattle.container.specs.Map.{Inside}
 use Rattle.sections.specs.Passes.{furthest}
-use Rattle.sections.proofs.Rows.{Next, next, no_row, past-rows, body_from, body-all, body_end, body-missing, body-absent, body-broken, body_kept}
+use Rattle.sections.proofs.Rows.{Next, next, no_row, past-rows, body-all, body_end, body-missing, body-absent, body-broken, body_kept}
 use Rattle.sections.proofs.judge_rows.Goals as goal
 use Rattle.sections.proofs.judge_rows.Goals.{In-Holds}
 
@@ -31,8 +28,11 @@ returns-in_default c =
 pub returns-then-not-optional : goal.returns-then-not-optional
 returns-then-not-optional c =
     let v = c.loop-row in
-    let a = c.args in record { value = rw c.refuse_row.ensures
-          (body-missing a.kind a.s.now a.x.from a.x.to v.row (here (goal.at.returns-then-not-optional c).In-Holds) c.if-to-eq0.true a.today v.at v.size (c.if-not-optional.true) ∙ v.invariant.3 ∙ body-all _ _ _ _ _); small = rw c.refuse_row.ensures tt }
+    let a = c.args in record {
+      value = rw c.refuse_row.ensures
+          (body-missing a.kind a.s.now a.x.from a.x.to v.row (here (goal.at.returns-then-not-optional c).In-Holds) c.if-to-eq0.true a.today v.at v.size (c.if-not-optional.true) ∙ v.invariant.3 ∙ body-all _ _ _ _ _);
+      small = rw c.refuse_row.ensures tt;
+    }
 
 pub loop-row-preserved-then-to-eq0 : goal.loop-row-preserved-then-to-eq0
 loop-row-preserved-then-to-eq0 c =
@@ -49,8 +49,11 @@ loop-row-preserved-then-to-eq0 c =
 pub returns-in-Breaks : goal.returns-in-Breaks
 returns-in-Breaks c =
     let v = c.loop-row in
-    let a = c.args in record { value = rw c.refuse_row-in-Breaks.ensures
-          (body-broken a.kind a.s.now a.x.from a.x.to v.row (here (goal.at.returns-in-Breaks c).In-Holds) c.if-to-eq0.false a.today v.at v.size (sym c.in-Breaks.is ∙ c.judge_value.ensures) ∙ v.invariant.3 ∙ body-all _ _ _ _ _); small = rw c.refuse_row-in-Breaks.ensures tt }
+    let a = c.args in record {
+      value = rw c.refuse_row-in-Breaks.ensures
+          (body-broken a.kind a.s.now a.x.from a.x.to v.row (here (goal.at.returns-in-Breaks c).In-Holds) c.if-to-eq0.false a.today v.at v.size (sym c.in-Breaks.is ∙ c.judge_value.ensures) ∙ v.invariant.3 ∙ body-all _ _ _ _ _);
+      small = rw c.refuse_row-in-Breaks.ensures tt;
+    }
 
 pub loop-row-preserved : goal.loop-row-preserved
 loop-row-preserved c =

@@ -1,14 +1,10 @@
 -- `sections::judge_rows` meets its contract. The loop's invariant: what the rows come to from here, after what was added up, is what all come to. Assumes nothing.
 use Prim.Native.Nat.{◌+◌, ◌*◌, ◌-◌, ◌≤◌}
-use mathlib.Core.Path.{◌≡◌, refl, sym, ◌∙◌}
-use native.Mathlib.Omega.{arith}
-use lib.ListN.{length, get_or}
-use borrow.Author.Rules.{rules}
-use borrow.Author.Tests.{not-true, not-false}
-use Rattle.laws.proofs.Layouts.{part-long}
+use mathlib.Core.Path.{◌≡◌}
+use lib.ListN.{length}
 use Rattle.container.specs.Map.{Inside}
 use Rattle.sections.specs.Passes.{furthest}
-use Rattle.sections.proofs.Rows.{Next, next, no_row, past-rows, body_from, body-all, body_end, body-missing, body-absent, body-broken, body_kept}
+use Rattle.sections.proofs.Rows.{body_from}
 use Rattle.sections.proofs.judge_rows.Given as goal
 
 abbrev pub invariant-loop-row : goal.invariant-loop-row

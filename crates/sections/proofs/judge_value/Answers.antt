@@ -1,7 +1,5 @@
 -- `sections::judge_value` meets its contract. Assumes nothing.
 use mathlib.Core.Path.{◌≡◌, sym, ◌∙◌}
-use borrow.Author.Rules.{rules}
-use borrow.Author.Tests.{not-true, not-false}
 use Rattle.kinds.specs.Tables.{row_of}
 use Rattle.kinds.specs.declared.Row.TheVariants.{At}
 use Rattle.rules.specs.Rules.{rule_of}

@@ -1,7 +1,6 @@
 -- `sections::planned` meets its contract: a law of Ways for each way out. Assumes nothing.
 use mathlib.Core.Path.{◌≡◌, sym, ◌∙◌}
 use mathlib.Core.Bool.{true}
-use borrow.Author.Rules.{rules}
 use borrow.Author.Tests.{not-true, not-false}
 use Rattle.dates.specs.Date.{is_date}
 use Rattle.kinds.specs.Tables.{is_kind}

@@ -1,19 +1,18 @@
 -- `sections::sections` meets its contract. The loop's invariant: what is noted, and after it what is left to open, is what the sheet opens to. Assumes nothing.
-use Prim.Native.Nat.{ℕ, ◌+◌, ◌*◌, ◌-◌, ◌≤◌, ◌<◌}
+use Prim.Native.Nat.{ℕ, ◌+◌, ◌<◌}
 use mathlib.Core.Path.{◌≡◌, refl, ◌∙◌}
 use mathlib.Core.Bool.{false}
 use mathlib.Core.Option.{none}
 use mathlib.Core.List.{List}
 use native.Mathlib.Omega.{arith}
 use lib.ListN.{length, length-set}
-use borrow.Author.Rules.{rules}
 use Rattle.laws.specs.Room.{zeros}
 use Rattle.kinds.specs.Tables.{table}
 use Rattle.kinds.proofs.Every.{few-rows, last-is-all}
 use Rattle.container.proofs.Noting.{inside-first}
 use Rattle.sections.specs.Opened.{opened}
 use Rattle.sections.specs.Passes.{furthest, Apart}
-use Rattle.sections.proofs.Opened.{Noted, noted-first, no-count, absent, cut_short, value, all_noted}
+use Rattle.sections.proofs.Opened.{noted-first, no-count, absent, cut_short, value, all_noted}
 use Rattle.sections.proofs.sections.Goals as goal
 use Rattle.sections.proofs.sections.Goals.{Else-left-lt2, In-loop-row}
 

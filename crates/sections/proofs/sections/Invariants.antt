@@ -1,19 +1,9 @@
 -- `sections::sections` meets its contract. The loop's invariant: what is noted, and after it what is left to open, is what the sheet opens to. Assumes nothing.
-use Prim.Native.Nat.{ℕ, ◌+◌, ◌*◌, ◌-◌, ◌≤◌, ◌<◌}
-use mathlib.Core.Path.{◌≡◌, refl, ◌∙◌}
-use mathlib.Core.Bool.{false}
-use mathlib.Core.Option.{none}
-use mathlib.Core.List.{List}
-use native.Mathlib.Omega.{arith}
-use lib.ListN.{length, length-set}
-use borrow.Author.Rules.{rules}
-use Rattle.laws.specs.Room.{zeros}
+use Prim.Native.Nat.{◌*◌, ◌-◌, ◌≤◌}
+use mathlib.Core.Path.{◌≡◌}
+use lib.ListN.{length}
 use Rattle.kinds.specs.Tables.{table}
-use Rattle.kinds.proofs.Every.{few-rows, last-is-all}
-use Rattle.container.proofs.Noting.{inside-first}
-use Rattle.sections.specs.Opened.{opened}
-use Rattle.sections.specs.Passes.{furthest, Apart}
-use Rattle.sections.proofs.Opened.{Noted, noted-first, no-count, absent, cut_short, value, all_noted}
+use Rattle.sections.proofs.Opened.{Noted}
 use Rattle.sections.proofs.sections.Given as goal
 
 abbrev pub invariant-loop-row : goal.invariant-loop-row

@@ -8,7 +8,6 @@ use Rattle.kinds.proofs.Every.{some-rows}
 use Rattle.container.proofs.Lying.{map_values, read-broken, fine-kind, fine-size, read-fine}
 use Rattle.container.proofs.Promise.{exact, named}
 use Rattle.sheet.specs.Calls.{breaks, conforms}
-use borrow.Author.Rules.{rules}
 use Rattle.sheet.proofs.check.Goals as goal
 use Rattle.sheet.proofs.check.Goals.{After-shared_slice_known-1}
 

@@ -11,7 +11,6 @@ use Rattle.container.specs.Map.{row_values}
 use Rattle.sheet.specs.Sheet.{sheet_of}
 use Rattle.sheet.specs.Calls.{short, fits}
 use Rattle.sheet.proofs.Sheets.{some-shown}
-use borrow.Author.Rules.{rules}
 use Rattle.sheet.proofs.give_sheet.Goals as goal
 use Rattle.sheet.proofs.give_sheet.Goals.{After-put_sheet-size, Start}
 

@@ -1,5 +1,3 @@
-
-use borrow.Author.Rules.{rules}
 use Rattle.laws.proofs.Rooms.{then}
 use Rattle.sheet.proofs.put_section.Goals as goal
 

@@ -1,17 +1,16 @@
 -- `sheet::put_sheet` meets its contract. The loop's invariant: what is left of the sheet is that of the rows to come. Assumes nothing.
-use Prim.Native.Nat.{ℕ, ◌+◌, ◌*◌, ◌-◌, ◌≤◌, ◌<◌}
+use Prim.Native.Nat.{◌≤◌, ◌<◌}
 use mathlib.Core.Logic.{inl, inr}
 use mathlib.Core.Path.{◌≡◌, refl, ap, ◌∙◌}
-use mathlib.Core.List.{List}
 use native.Mathlib.Nat.{sub-zero}
 use native.Mathlib.Omega.{arith}
 use lib.ListN.{length, get_or}
 use borrow.Author.Rules.{rules}
 use Rattle.laws.specs.Room.{laid}
-use Rattle.laws.proofs.Rooms.{Left, begin, step, ended}
+use Rattle.laws.proofs.Rooms.{begin, step, ended}
 use Rattle.kinds.specs.Tables.{table}
 use Rattle.kinds.proofs.Every.{few-rows, last-is-all}
-use Rattle.container.specs.Map.{Inside, row_values}
+use Rattle.container.specs.Map.{row_values}
 use Rattle.sheet.specs.Sheet.{sheet_of}
 use Rattle.sheet.proofs.Sheets.{absent-next, value-next, value-length, none_left}
 use Rattle.sheet.proofs.put_sheet.Goals as goal

@@ -1,19 +1,12 @@
 -- `sheet::put_sheet` meets its contract. The loop's invariant: what is left of the sheet is that of the rows to come. Assumes nothing.
-use Prim.Native.Nat.{ℕ, ◌+◌, ◌*◌, ◌-◌, ◌≤◌, ◌<◌}
-use mathlib.Core.Logic.{inl, inr}
-use mathlib.Core.Path.{◌≡◌, refl, ap, ◌∙◌}
+use Prim.Native.Nat.{ℕ, ◌+◌, ◌*◌, ◌-◌, ◌≤◌}
+use mathlib.Core.Path.{◌≡◌}
 use mathlib.Core.List.{List}
-use native.Mathlib.Nat.{sub-zero}
-use native.Mathlib.Omega.{arith}
-use lib.ListN.{length, get_or}
-use borrow.Author.Rules.{rules}
-use Rattle.laws.specs.Room.{laid}
-use Rattle.laws.proofs.Rooms.{Left, begin, step, ended}
+use lib.ListN.{length}
+use Rattle.laws.proofs.Rooms.{Left}
 use Rattle.kinds.specs.Tables.{table}
-use Rattle.kinds.proofs.Every.{few-rows, last-is-all}
 use Rattle.container.specs.Map.{Inside, row_values}
 use Rattle.sheet.specs.Sheet.{sheet_of}
-use Rattle.sheet.proofs.Sheets.{absent-next, value-next, value-length, none_left}
 use Rattle.sheet.proofs.put_sheet.Given as goal
 
 abbrev pub invariant-loop-row : goal.invariant-loop-row

@@ -1,7 +1,6 @@
 -- `signer::in_biometric` meets its contract: its check refuses, or its value is asked. Assumes nothing.
 use mathlib.Core.Path.{◌≡◌, ap, ◌∙◌}
 use native.Mathlib.Omega.{arith}
-use borrow.Author.Rules.{rules}
 use Rattle.laws.specs.Bytes.{Bytes}
 use Rattle.laws.proofs.Bases.{below_of}
 use Rattle.verdicts.specs.Verdicts.{verdict_of}

@@ -2,7 +2,6 @@
 use mathlib.Core.List.{List}
 use Prim.Native.Nat.{ℕ}
 use native.Mathlib.Omega.{arith}
-use borrow.Author.Rules.{rules}
 use Rattle.blocks.specs.Reading.{Reads}
 use Rattle.blocks.specs.declared.Block.TheVariants.{Empty, Holds}
 use Rattle.signer.proofs.Ways.{within, out-29, out-own, out-30, out-31, out-block}

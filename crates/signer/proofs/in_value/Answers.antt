@@ -1,8 +1,6 @@
 -- `signer::in_value` meets its contract: the FASC-N differ, or the blocks are asked. Assumes nothing.
 use mathlib.Core.Path.{sym, ◌∙◌}
 use Prim.Native.Nat.{◌+◌}
-use borrow.Author.Rules.{rules}
-use borrow.Author.Tests.{not-true, not-false}
 use Rattle.laws.proofs.Turns.{rest}
 use Rattle.signer.proofs.Ways.{out-28, out-same}
 use Rattle.signer.proofs.in_value.Goals as goal

@@ -1,8 +1,6 @@
 -- `signer::locate` meets its contract: no biometric, or the CHUID's check refuses, or the biometric is asked. Assumes nothing.
 use mathlib.Core.Path.{◌≡◌, refl, sym, ap, ◌∙◌}
 use mathlib.Core.Bool.{false≢true}
-use borrow.Author.Rules.{rules}
-use borrow.Author.Tests.{not-true, not-false}
 use Rattle.laws.specs.Bytes.{Bytes}
 use Rattle.laws.proofs.Bases.{below_of}
 use Rattle.verdicts.specs.Verdicts.{outright, verdict_of}

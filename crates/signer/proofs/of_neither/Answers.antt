@@ -1,5 +1,4 @@
 -- `signer::of_neither` meets its contract. Assumes nothing.
-use borrow.Author.Rules.{rules}
 use Rattle.signer.proofs.of_neither.Goals as goal
 
 pub returns : goal.returns

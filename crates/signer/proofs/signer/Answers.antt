@@ -1,6 +1,5 @@
 -- `signer::signer` meets its contract: the part of the container that it lies in. Assumes nothing.
 use native.Mathlib.Omega.{arith}
-use borrow.Author.Rules.{rules}
 use Rattle.signer.proofs.Handing.{ordered, of-chuid, of-biometric}
 use Rattle.signer.proofs.signer.Goals as goal
 

@@ -9,7 +9,6 @@ use Rattle.laws.specs.Layout.{part}
 use Rattle.laws.proofs.Bases.{below_of}
 use Rattle.summary.specs.Rows.{seen}
 use Rattle.summary.proofs.Carriers.{chuid-counted, biometric-counted, none-counted}
-use borrow.Author.Rules.{rules}
 use Rattle.summary.proofs.conforming.Goals as goal
 use Rattle.summary.proofs.conforming.Goals.{After-shared_slice_known-1}
 

@@ -7,7 +7,6 @@ use Rattle.container.specs.Reading.{values, fault, parsed}
 use Rattle.container.proofs.Promise.{exact}
 use Rattle.container.proofs.Lying.{map_values, read-fine, read-broken}
 use Rattle.summary.proofs.Laws.{judged-long, judged-lent}
-use borrow.Author.Rules.{rules}
 use Rattle.summary.proofs.judge.Goals as goal
 use Rattle.summary.proofs.judge.Goals.{After-shared_slice_known-1, In-Fine}
 

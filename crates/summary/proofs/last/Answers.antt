@@ -6,7 +6,6 @@ use borrow.Author.Tests.{ltb-true, ltb-false}
 use Rattle.verdicts.proofs.Outputs.{refuses, gives}
 use Rattle.summary.specs.Rows.{alike}
 use Rattle.summary.proofs.Laws.{last-3, last-0, last-most}
-use borrow.Author.Rules.{rules}
 use Rattle.summary.proofs.last.Goals as goal
 
 pub returns-then-prepare : goal.returns-then-prepare

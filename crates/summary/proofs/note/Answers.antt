@@ -1,6 +1,5 @@
 -- `summary::note` meets its contract. Assumes nothing.
 use Rattle.summary.proofs.Laws.{first-seen, other-seen, same_seen}
-use borrow.Author.Rules.{rules}
 use Rattle.summary.proofs.note.Goals as goal
 
 pub returns-then-agreement-eq0 : goal.returns-then-agreement-eq0

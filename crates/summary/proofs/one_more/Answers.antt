@@ -1,6 +1,5 @@
 -- `summary::one_more` meets its contract. Assumes nothing.
 use borrow.Author.Tests.{eq-eqb, ne_eqb}
-use borrow.Author.Rules.{rules}
 use Rattle.summary.proofs.one_more.Goals as goal
 
 pub returns-then-good : goal.returns-then-good

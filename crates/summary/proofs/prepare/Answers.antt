@@ -1,6 +1,5 @@
 -- `summary::prepare` meets its contract. Assumes nothing.
 use lib.ListN.{length-replicate}
-use borrow.Author.Rules.{rules}
 use Rattle.summary.proofs.prepare.Goals as goal
 
 pub returns : goal.returns

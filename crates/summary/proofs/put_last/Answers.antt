@@ -2,7 +2,6 @@
 use borrow.Author.Tests.{lt-ltb, le-ltb}
 use Rattle.laws.proofs.Rooms.{then}
 use Rattle.summary.specs.Rows.{last_text}
-use borrow.Author.Rules.{rules}
 use Rattle.summary.proofs.put_last.Goals as goal
 
 pub returns-then-agreement-lt2 : goal.returns-then-agreement-lt2

@@ -1,7 +1,6 @@
 -- `summary::put_row` meets its contract. Assumes nothing.
 use Rattle.laws.proofs.Rooms.{then}
 use Rattle.summary.specs.Rows.{row_text}
-use borrow.Author.Rules.{rules}
 use Rattle.summary.proofs.put_row.Goals as goal
 
 pub returns : goal.returns

@@ -1,5 +1,4 @@
 -- `summary::refused` meets its contract. Assumes nothing.
-use borrow.Author.Rules.{rules}
 use Rattle.summary.proofs.refused.Goals as goal
 
 pub returns : goal.returns

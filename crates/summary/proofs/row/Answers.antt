@@ -6,12 +6,11 @@ use native.Mathlib.Nat.{le_trans}
 use native.Mathlib.Omega.{arith}
 use lib.Dec.{ltb}
 use lib.ListN.{length}
-use borrow.Author.Tests.{not-true, not-false, ltb-true, ltb-false}
+use borrow.Author.Tests.{ltb-true, ltb-false}
 use Rattle.dates.specs.Date.{is_date}
 use Rattle.container.specs.Reading.{verdict}
 use Rattle.summary.specs.Rows.{whole, row_room}
 use Rattle.summary.proofs.Laws.{row-2, row-3, row-32, row-0, row-most, small-whole, refused-row, written_row}
-use borrow.Author.Rules.{rules}
 use Rattle.summary.proofs.row.Goals as goal
 use Rattle.summary.proofs.row.Goals.{Else-not-is_date, Else-small}
 

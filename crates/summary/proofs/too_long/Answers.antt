@@ -1,6 +1,5 @@
 -- `summary::too_long` meets its contract. Assumes nothing.
 use mathlib.Core.Path.{sym, ◌∙◌}
-use borrow.Author.Rules.{rules}
 use Rattle.summary.proofs.too_long.Goals as goal
 
 pub returns-then-is_kind : goal.returns-then-is_kind

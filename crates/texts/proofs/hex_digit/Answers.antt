@@ -1,5 +1,4 @@
 -- `texts::hex_digit` meets its contract. Assumes nothing.
-use borrow.Author.Rules.{rules}
 use Rattle.texts.proofs.Texts.{hex-low, hex-high}
 use Rattle.texts.proofs.hex_digit.Goals as goal
 

@@ -1,6 +1,5 @@
 -- `texts::places` meets its contract. The loop's invariant: the digits that are gone from rest are counted, and one more. Assumes nothing.
-use borrow.Author.Rules.{rules}
-use Rattle.texts.proofs.Texts.{Counted, counted_start, counted-turn, counted-end}
+use Rattle.texts.proofs.Texts.{counted_start, counted-turn, counted-end}
 use Rattle.texts.proofs.places.Goals as goal
 
 pub loop-rest-init : goal.loop-rest-init

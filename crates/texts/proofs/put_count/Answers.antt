@@ -1,6 +1,5 @@
 -- `texts::put_count` meets its contract: its pieces stand one after the other. Assumes nothing.
 use Rattle.laws.proofs.Rooms.{then}
-use borrow.Author.Rules.{rules}
 use Rattle.texts.proofs.put_count.Goals as goal
 
 pub returns : goal.returns

@@ -1,5 +1,4 @@
 -- `texts::put_decimal` meets its contract. Assumes nothing.
-use borrow.Author.Rules.{rules}
 use Rattle.texts.proofs.put_decimal.Goals as goal
 
 pub returns : goal.returns

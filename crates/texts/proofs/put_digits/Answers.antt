@@ -1,7 +1,6 @@
 -- `texts::put_digits` meets its contract: its pieces stand one after the other. Assumes nothing.
 use Rattle.laws.proofs.Rooms.{then}
 use mathlib.Core.List.{append_assoc}
-use borrow.Author.Rules.{rules}
 use Rattle.texts.proofs.put_digits.Goals as goal
 
 pub returns : goal.returns

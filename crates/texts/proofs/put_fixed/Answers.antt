@@ -1,12 +1,10 @@
 -- `texts::put_fixed` meets its contract. The loop's invariant: the last digits stand at their places, and i are to come. Assumes nothing.
-use mathlib.Core.Path.{◌≡◌, refl, ap, ◌∙◌}
-use Prim.Native.Nat.{◌≤◌, ◌<◌, ◌-◌, ◌/◌, ◌^◌}
+use mathlib.Core.Path.{refl, ap, ◌∙◌}
+use Prim.Native.Nat.{◌<◌}
 use native.Mathlib.Omega.{arith}
 use borrow.Author.Rules.{rules}
 use lib.ListN.{length, length-set}
 use Rattle.laws.proofs.Turns.{rest-none, rest-next}
-use Rattle.texts.specs.Text.{fixed}
-use Rattle.texts.proofs.General.{over}
 use Rattle.texts.proofs.Texts.{fixed-start, fixed-turn, fixed-whole, fixed-cut}
 use Rattle.texts.proofs.put_fixed.Goals as goal
 

@@ -1,7 +1,6 @@
 -- `texts::put_hex` meets its contract. Assumes nothing.
 use Prim.Native.Nat.{◌<◌}
 use native.Mathlib.Omega.{arith}
-use borrow.Author.Rules.{rules}
 use Rattle.texts.proofs.Texts.{hex-is}
 use Rattle.texts.proofs.put_hex.Goals as goal
 

@@ -3,7 +3,6 @@ use Prim.Native.Nat.{◌%◌, ◌<◌}
 use mathlib.Core.Path.{◌≡◌}
 use native.Mathlib.Omega.{arith}
 use Rattle.laws.proofs.Rooms.{then}
-use borrow.Author.Rules.{rules}
 use Rattle.texts.proofs.Texts.{decimal-one}
 use Rattle.texts.proofs.put_number.Goals as goal
 

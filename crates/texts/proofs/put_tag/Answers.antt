@@ -1,7 +1,6 @@
 -- `texts::put_tag` meets its contract. Assumes nothing.
 use Prim.Native.Nat.{◌≤◌, ◌<◌}
 use native.Mathlib.Omega.{arith}
-use borrow.Author.Rules.{rules}
 use Rattle.laws.proofs.Rooms.{then}
 use Rattle.texts.proofs.Texts.{tag-short, tag-long}
 use Rattle.texts.proofs.put_tag.Goals as goal

@@ -1,6 +1,5 @@
 -- `texts::store` meets its contract: a store past the end would change nothing. Assumes nothing.
 use mathlib.Core.Path.{sym}
-use borrow.Author.Rules.{rules}
 use lib.Seq.{set_out}
 use Rattle.texts.proofs.store.Goals as goal
 

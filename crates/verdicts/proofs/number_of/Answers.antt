@@ -1,5 +1,4 @@
 -- `verdicts::number_of` meets its contract: an arm for each fault. Assumes nothing.
-use borrow.Author.Rules.{rules}
 use Rattle.verdicts.proofs.number_of.Goals as goal
 
 pub returns-in-UnknownKind : goal.returns-in-UnknownKind

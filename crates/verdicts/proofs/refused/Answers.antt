@@ -1,5 +1,4 @@
 -- `verdicts::refused` meets its contract. Assumes nothing.
-use borrow.Author.Rules.{rules}
 use Rattle.verdicts.proofs.refused.Goals as goal
 
 pub returns : goal.returns

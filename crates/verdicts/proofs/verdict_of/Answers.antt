@@ -1,5 +1,4 @@
 -- `verdicts::verdict_of` meets its contract. Assumes nothing.
-use borrow.Author.Rules.{rules}
 use Rattle.verdicts.proofs.verdict_of.Goals as goal
 
 pub returns-in-Broken : goal.returns-in-Broken

@@ -4,7 +4,6 @@ use Rattle.laws.proofs.Bases.{below_of}
 use Rattle.verdicts.specs.Verdicts.{verdict_of}
 use Rattle.container.proofs.Lying.{told-broken, told-fine}
 use Rattle.views.proofs.Ways.{out-broken, out-fine}
-use borrow.Author.Rules.{rules}
 use Rattle.views.proofs.locate.Goals as goal
 
 pub returns-in-Broken : goal.returns-in-Broken

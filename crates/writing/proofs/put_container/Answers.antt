@@ -1,5 +1,4 @@
 -- `writing::put_container` meets its contract: outer tag, length and elements one after the other, each into the rest that is lent. Assumes nothing.
-use borrow.Author.Rules.{rules}
 use Rattle.laws.proofs.Rooms.{then}
 use Rattle.writing.proofs.put_container.Goals as goal
 

@@ -1,5 +1,4 @@
 -- `writing::put_element` meets its contract: tag, length and value one after the other, each into the rest that is lent. Assumes nothing.
-use borrow.Author.Rules.{rules}
 use Rattle.laws.proofs.Rooms.{then}
 use Rattle.writing.proofs.put_element.Goals as goal
 

@@ -1,14 +1,10 @@
 -- `writing::put_elements` meets its contract. The loop's invariant: what is written and what is left of the elements are the whole. Assumes nothing.
-use Prim.Native.Nat.{◌-◌, ◌≤◌}
-use mathlib.Core.Path.{◌≡◌, refl, sym, ◌∙◌}
+use Prim.Native.Nat.{◌≤◌}
+use mathlib.Core.Path.{refl, sym, ◌∙◌}
 use native.Mathlib.Omega.{arith}
 use lib.ListN.{length, get_or}
-use borrow.Author.Rules.{rules}
-use Rattle.laws.proofs.Rooms.{same_room, Left, begin, same, step, ended}
-use Rattle.kinds.specs.Tables.{table}
-use Rattle.container.specs.Container.{encode}
-use Rattle.container.specs.Map.{Inside, row_values}
-use Rattle.sections.proofs.Rows.{Next, next, no_row, past-rows, small-tag, text_from, text-all, text-end, text-absent, text-value}
+use Rattle.laws.proofs.Rooms.{same_room, begin, same, step, ended}
+use Rattle.sections.proofs.Rows.{Next, next, no_row, past-rows, small-tag, text-all, text-end, text-absent, text-value}
 use Rattle.writing.proofs.put_elements.Goals as goal
 use Rattle.writing.proofs.put_elements.Goals.{In-Holds}
 

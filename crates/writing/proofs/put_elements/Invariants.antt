@@ -1,14 +1,12 @@
 -- `writing::put_elements` meets its contract. The loop's invariant: what is written and what is left of the elements are the whole. Assumes nothing.
 use Prim.Native.Nat.{◌-◌, ◌≤◌}
-use mathlib.Core.Path.{◌≡◌, refl, sym, ◌∙◌}
-use native.Mathlib.Omega.{arith}
-use lib.ListN.{length, get_or}
-use borrow.Author.Rules.{rules}
-use Rattle.laws.proofs.Rooms.{same_room, Left, begin, same, step, ended}
+use mathlib.Core.Path.{◌≡◌}
+use lib.ListN.{length}
+use Rattle.laws.proofs.Rooms.{Left}
 use Rattle.kinds.specs.Tables.{table}
 use Rattle.container.specs.Container.{encode}
 use Rattle.container.specs.Map.{Inside, row_values}
-use Rattle.sections.proofs.Rows.{Next, next, no_row, past-rows, small-tag, text_from, text-all, text-end, text-absent, text-value}
+use Rattle.sections.proofs.Rows.{text_from}
 use Rattle.writing.proofs.put_elements.Given as goal
 
 abbrev pub invariant-loop-row : goal.invariant-loop-row

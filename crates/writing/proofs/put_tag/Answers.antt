@@ -1,5 +1,4 @@
 -- `writing::put_tag` meets its contract. Assumes nothing.
-use borrow.Author.Rules.{rules}
 use borrow.Author.Tests.{lt-ltb, le-ltb}
 use Rattle.writing.proofs.put_tag.Goals as goal
 

@@ -1,7 +1,6 @@
 -- `writing::write` meets its contract, by the plan. Assumes nothing.
 use mathlib.Core.Path.{◌∙◌}
 use lib.ListN.{length}
-use borrow.Author.Rules.{rules}
 use Rattle.laws.specs.Bytes.{Bytes}
 use Rattle.laws.proofs.Bases.{below_of}
 use Rattle.laws.proofs.Rooms.{taken-whole}
