@@ -2,36 +2,41 @@
 // or `refused N`. What it prints is said and proved in the crate printout; here it is read and written.
 #![tactic(auto)]
 
+ghost use Rattle.std.specs.Prelude.{IsTrue};
+ghost use Rattle.std.specs.Io.KnownBytes.{IsAtEnd};
 ghost use Rattle.printout.specs.Printout.{Prints};
 
-use libc::{STDERR_FILENO, STDIN_FILENO, STDOUT_FILENO};
+use std::io::Read;
 
 // The one function of the program that writes. What it may write is a demand on its caller: what is printed for the bytes
 // that were read, and nothing else.
-fn print(input: &[u8], got: usize, text: &[u8])
+fn print(rt: &(impl Print + Eprint), input: &[u8], got: usize, text: &[u8])
     requires { Prints input.now got text.now }
 {
-    if !io::write_all(STDOUT_FILENO, text) {
-        io::write_all(STDERR_FILENO, b"desk: not all could be written\n");
+    if rt.write_all(text).is_err() {
+        let _ = eprintln!(rt; "desk: not all could be written");
     }
 }
 
-// Whether standard input is at its end. `read_full` stops at a read that fails as it stops at the end; one more read tells the
-// two apart.
-fn at_end() -> bool {
+// Whether the input is at its end. `read_full` stops at a read that fails as it stops at the end; one more read tells the two
+// apart.
+fn at_end<R: Read>(input: &mut R) -> bool
+    ensures { IsTrue result → IsAtEnd (R.remaining input.old) }
+{
     let mut more = [0u8; 1];
-    libc::read(STDIN_FILENO, &mut more) == 0
+    matches!(input.read(&mut more), Ok(0))
 }
 
-fn main() {
+fn main(rt: HostRuntime) {
+    let mut stdin = rt.stdin();
     let mut input = [0u8; 32779];
     let mut room = [0u8; 512];
-    let got = io::read_full(STDIN_FILENO, &mut input);
+    let got = reading::read_full(&mut stdin, &mut input);
     // a full buffer holds a container that is too large, whatever follows
-    if got < input.len() && !at_end() {
-        io::write_all(STDERR_FILENO, b"desk: the input could not be read whole\n");
+    if got < input.len() && !at_end(&mut stdin) {
+        let _ = eprintln!(rt; "desk: the input could not be read whole");
         return;
     }
     let n = printout::answer(&input[..got], &mut room);
-    print(&input, got, &room[..n]);
+    print(&rt, &input, got, &room[..n]);
 }

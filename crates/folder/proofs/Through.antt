@@ -12,10 +12,9 @@ use lib.Seq.{length-take-le, take-append-add, take-append_seam}
 use borrow.Author.Tests.{ltb-true, ltb-false}
 use borrow.Rule.Slice.PartMut.{put_mid, mid_of, post_of, same_len_mid}
 use Rattle.laws.specs.Bytes.{Bytes}
-use Rattle.laws.specs.Room.{zeros, filled, Put}
+use Rattle.laws.specs.Room.{zeros, filled}
 use Rattle.laws.proofs.Cases.{which}
-use Rattle.laws.proofs.Rooms.{length-filled, same_room}
-use Rattle.io.specs.Counts.{IsPrefixLen}
+use Rattle.laws.proofs.Rooms.{length-filled}
 use Rattle.dates.specs.Date.{IsDate, is_date}
 use Rattle.dates.proofs.Dates.{date-exact}
 use Rattle.pieces.specs.Folder.{Entry, IsEntry}
@@ -174,11 +173,6 @@ left false n = suc n
 pub fewer-left : (b : Bool) {r g n : ℕ} {u : Bool} → u ≡ b → g < n → (u ≡ false → r ≡ g + 1) → left u (n - r) < left false (n - g)
 fewer-left true e l h = rw e (omega arith)
 fewer-left false e l h = rw e (omega (arith, l, h e))
-
--- ---- a name
-
-pub counts : {p d e : List ℕ} {n : ℕ} → Put p d e n → IsPrefixLen n e
-counts {e = e} {n = n} w = let h : n ≤ length e = omega (arith, w.inside, same_room w) in (h, sym (length-take-le n e h))
 
 -- ---- the last lines
 

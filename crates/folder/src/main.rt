@@ -3,16 +3,19 @@
 // and summary; here the file is read and the text is written.
 #![tactic(auto)]
 
-ghost use Rattle.std.specs.Prelude.{true, false, ◌≡◌, ◌<◌, length, take, ◌++◌};
+ghost use Rattle.std.specs.Prelude.{true, false, ◌≡◌, ◌<◌, ◌≤◌, length, take, ◌++◌};
 ghost use Rattle.laws.specs.Ascii.{ascii};
 ghost use Rattle.laws.specs.Room.{Put};
-ghost use Rattle.io.specs.Counts.{IsPrefixLen};
 ghost use Rattle.dates.specs.Date.{IsDate};
 ghost use Rattle.folder.specs.Going.{text_size, lent_of, SoFar, Goes, Summarises};
 
 use dates::Date;
-use libc::{STDERR_FILENO, STDOUT_FILENO};
 use pieces::State;
+use std::fs::{OpenFile, OpenOptions};
+use std::io::{Cursor, Error, IsTerminal, Read, Seek, SeekFrom, Write};
+use std::random::RandomSource;
+use std::rt::{Env, Files};
+use std::{fs, io, str};
 use summary::Tally;
 
 // How far the second time through is: whether the file could not be read, how many rows are written, the offset of the next
@@ -26,38 +29,42 @@ pub struct Going {
     pub tally: Tally,
 }
 
-// What going over the folder comes to.
-#[derive(Clone, Copy)]
-enum Gone {
-    Unread,
-    To(State),
-}
-
-fn refuse(number: u64) {
+fn refuse(rt: &impl Print, number: u64) {
     let mut room = [0u8; 32];
     let n = printout::refuse(number, &mut room);
-    io::write_all(STDOUT_FILENO, &room[..n]);
+    let _ = rt.write_all(&room[..n]);
+}
+
+// A line on standard error: what failed, and why in the system's words, without the number that it has for them.
+fn fail(rt: &impl Eprint, what: &str, why: Error) {
+    let mut text = Cursor::new([0u8; 128]);
+    let _ = write!(text, "{why}");
+    let end = 128.min(text.position() as usize);
+    let words = str::from_utf8(&text.get_ref()[..end]).unwrap_or("");
+    let words = words
+        .split_once(" (os error")
+        .map_or(words, |(front, _)| front);
+    let _ = eprintln!(rt; "folder: {what}: {words}");
 }
 
 // Where standard error is a terminal, how much was gone over: a line that the next one, or any message, is written over.
-fn show_progress(turns: u64) {
-    if turns % 1024 == 0 && libc::isatty(STDERR_FILENO) == 1 {
-        io::write_all(STDERR_FILENO, b"folder: ");
-        io::print_decimal(STDERR_FILENO, turns / 16);
-        io::write_all(STDERR_FILENO, b" MiB gone over\r");
+fn show_progress(stderr: &(impl Eprint + IsTerminal), turns: u64) {
+    if turns % 1024 == 0 && stderr.is_terminal() {
+        let size = turns / 16;
+        let _ = eprint!(stderr; "folder: {size} MiB gone over\r");
     }
 }
 
-fn clear_progress(turns: u64) {
-    if 1024 <= turns && libc::isatty(STDERR_FILENO) == 1 {
-        io::write_all(STDERR_FILENO, b"\x1B[K");
+fn clear_progress(stderr: &(impl Eprint + IsTerminal), turns: u64) {
+    if 1024 <= turns && stderr.is_terminal() {
+        let _ = eprint!(stderr; "\x1B[K");
     }
 }
 
 // The first time through: all bytes, in pieces. A folder has less than 2 to the 41 bytes, so that the turns do not run out before one
 // ends.
-fn go_over(fd: i32) -> Gone {
-    let mut piece = io::large_buffer();
+fn go_over(file: &mut impl Read, stderr: &(impl Eprint + IsTerminal)) -> io::Result<State> {
+    let mut piece = [0u8; 65536];
     let mut state = State {
         phase: 0,
         value: 0,
@@ -65,20 +72,16 @@ fn go_over(fd: i32) -> Gone {
     };
     let mut turns: u64 = 0;
     while turns < 2199023255552 {
-        let got = libc::read(fd, &mut piece);
-        if got < 0 {
-            return Gone::Unread;
-        }
-        if got == 0 {
+        let n = file.read(&mut piece)?;
+        if n == 0 {
             break;
         }
-        let n = io::count(got, &piece);
         state = prosianek::folder_step(state, &piece[..n]);
         turns += 1;
-        show_progress(turns);
+        show_progress(stderr, turns);
     }
-    clear_progress(turns);
-    Gone::To(state)
+    clear_progress(stderr, turns);
+    Ok(state)
 }
 
 // How many bytes of a container are lent: "one over 32,768 by its length alone".
@@ -92,14 +95,14 @@ fn lent(size: u64) -> usize
 }
 
 // The bytes of a container, or the place behind them where it is too long to be lent: whether they could be read.
-fn fetch(fd: i32, size: u64, container: &mut [u8]) -> bool
+fn fetch(file: &mut (impl Read + Seek), size: u64, container: &mut [u8]) -> bool
     requires { (size < 4294967296) × (length container.old ≡ 32768) }
 {
     if 32768 < size {
-        return 0 <= libc::lseek(fd, size as i64, libc::SEEK_CUR);
+        return file.seek(SeekFrom::Current(size as i64)).is_ok();
     }
     let n = size as usize;
-    io::read_full(fd, &mut container[..n]) == n
+    reading::read_full(file, &mut container[..n]) == n
 }
 
 fn unread(going: Going) -> Going
@@ -144,18 +147,18 @@ fn append(today: u64, kind: u8, size: u64, container: &[u8], going: Going, text:
 }
 
 // One container more: its kind and its length, then its bytes, and its row.
-fn next(fd: i32, today: u64, going: Going, text: &mut [u8]) -> Going
+fn next(file: &mut (impl Read + Seek), today: u64, going: Going, text: &mut [u8]) -> Going
     requires { IsDate today × SoFar today going text.old × (going.count < 256) }
     ensures { Goes today going result text.new }
 {
     let mut head = [0u8; 5];
-    if io::read_full(fd, &mut head) < 5 {
+    if reading::read_full(file, &mut head) < 5 {
         return unread(going);
     }
     let kind = head[0];
     let size = numbers::number(&head, 1, 4);
     let mut container = [0u8; 32768];
-    if !fetch(fd, size, &mut container) {
+    if !fetch(file, size, &mut container) {
         return unread(going);
     }
     let n = lent(size);
@@ -163,20 +166,20 @@ fn next(fd: i32, today: u64, going: Going, text: &mut [u8]) -> Going
 }
 
 // How many containers there are; 257 where that cannot be read.
-fn read_count(fd: i32) -> u64 {
+fn read_count(file: &mut impl Read) -> u64 {
     let mut head = [0u8; 2];
-    if io::read_full(fd, &mut head) < 2 {
+    if reading::read_full(file, &mut head) < 2 {
         return 257;
     }
     numbers::number(&head, 0, 2)
 }
 
 // The second time through: a row for each container.
-fn rows(fd: i32, today: u64, text: &mut [u8]) -> Going
+fn rows(file: &mut (impl Read + Seek), today: u64, text: &mut [u8]) -> Going
     requires { IsDate today × (length text.old ≡ text_size) }
     ensures { result.unread ≡ false → SoFar today result text.new }
 {
-    let count = read_count(fd);
+    let count = read_count(file);
     let mut going = Going {
         unread: 256 < count,
         count: 0,
@@ -189,7 +192,7 @@ fn rows(fd: i32, today: u64, text: &mut [u8]) -> Going
         },
     };
     while !going.unread & (going.count < count) {
-        going = next(fd, today, going, text);
+        going = next(file, today, going, text);
     }
     going
 }
@@ -197,7 +200,7 @@ fn rows(fd: i32, today: u64, text: &mut [u8]) -> Going
 // The two last lines, behind the rows: how long the whole text is.
 fn close(today: u64, going: Going, text: &mut [u8]) -> usize
     requires { SoFar today going text.old }
-    ensures prefix_len { IsPrefixLen result text.new }
+    ensures inside { result ≤ length text.new }
     ensures summarises { Summarises today (take result text.new) }
 {
     let at = going.length;
@@ -209,7 +212,7 @@ fn close(today: u64, going: Going, text: &mut [u8]) -> usize
 
 // The name of the folder with `.summary` behind it. One that does not fit fills the room, and is then too long for any file.
 fn put_name(path: &[u8], name: &mut [u8]) -> usize
-    ensures prefix_len { IsPrefixLen result name.new }
+    ensures inside { result ≤ length name.new }
     ensures put { Put (path.now ++ ascii ".summary") name.old name.new result }
 {
     let at = room::put_all(path, name);
@@ -217,117 +220,149 @@ fn put_name(path: &[u8], name: &mut [u8]) -> usize
 }
 
 // A name that no other run has: the summary's, and random digits behind it.
-fn put_new_name(path: &[u8], name: &mut [u8]) -> usize
-    ensures { IsPrefixLen result name.new }
+fn put_new_name(rt: &impl RandomSource, path: &[u8], name: &mut [u8]) -> usize
+    ensures { result ≤ length name.new }
 {
     let mut seed = [0u8; 8];
-    libc::getentropy(&mut seed);
-    let mut digits = [0u8; 16];
-    let n = io::hex(numbers::number(&seed, 0, 8), 16, &mut digits);
+    let _ = rt.fill_bytes(&mut seed);
+    let mut digits = Cursor::new([0u8; 16]);
+    let number = numbers::number(&seed, 0, 8);
+    let _ = write!(digits, "{number:016x}");
     let mut at = put_name(path, name);
     at += room::put_byte(b'.', &mut name[at..]);
-    at + room::put_all(&digits[..n], &mut name[at..])
+    at + room::put_all(digits.get_ref(), &mut name[at..])
+}
+
+// A name as std takes it: text. What the system says of one that fills its room and is too long, and of one that is no text, are
+// its errors 36 and 84.
+fn name_of(name: &[u8]) -> io::Result<&str> {
+    if 4096 <= name.len() {
+        return Err(Error::from_raw_os_error(36));
+    }
+    match str::from_utf8(name) {
+        Ok(text) => Ok(text),
+        Err(_) => Err(Error::from_raw_os_error(84)),
+    }
+}
+
+// Writes the text to a file, and closes it once it is whole.
+fn fill(mut file: impl Write + OpenFile + Drop, text: &[u8]) -> io::Result<()> {
+    file.write_all(text)?;
+    file.sync_all()
 }
 
 // Writes the text to a new file, which gets the summary's name once it is whole; where it cannot be written, no half of it stays.
-// Whether that could be done.
-fn make(new: &[u8], name: &[u8], text: &[u8]) -> bool {
-    let fd = os::create(new);
-    if fd < 0 {
-        os::fail(b"folder: the summary cannot be written");
-        return false;
+fn make(rt: &impl Files, new: &str, name: &str, text: &[u8]) -> io::Result<()> {
+    let file = OpenOptions::new()
+        .write(true)
+        .create_new(true)
+        .open(rt, new)?;
+    if let Err(why) = fill(file, text) {
+        let _ = fs::remove_file(rt, new);
+        return Err(why);
     }
-    if !io::write_all(fd, text)
-        || libc::fsync(fd) != 0
-        || libc::close(fd) != 0
-        || os::rename(new, name) != 0
-    {
-        os::fail(b"folder: the summary cannot be written");
-        os::unlink(new);
-        return false;
+    if let Err(why) = fs::rename(rt, new, name) {
+        let _ = fs::remove_file(rt, new);
+        return Err(why);
     }
-    true
+    Ok(())
 }
 
 // The same beside the folder.
-fn save(path: &[u8], text: &[u8]) -> bool {
-    let mut new = io::buffer();
-    let mut name = io::buffer();
-    let new_length = put_new_name(path, &mut new);
+fn save(rt: &(impl Files + RandomSource), path: &[u8], text: &[u8]) -> io::Result<()> {
+    let mut new = [0u8; 4096];
+    let mut name = [0u8; 4096];
+    let new_length = put_new_name(rt, path, &mut new);
     let name_length = put_name(path, &mut name);
-    make(&new[..new_length], &name[..name_length], text)
+    make(
+        rt,
+        name_of(&new[..new_length])?,
+        name_of(&name[..name_length])?,
+        text,
+    )
 }
 
 // The one function of the program that writes a text. What it may write is a demand on its caller: a summary under this date, and
 // nothing else.
-fn publish(today: u64, path: &[u8], text: &[u8])
+fn publish(rt: &(impl Files + RandomSource + Print + Eprint), today: u64, path: &[u8], text: &[u8])
     requires { Summarises today text.now }
 {
-    if save(path, text) && !io::write_all(STDOUT_FILENO, text) {
-        io::write_all(STDERR_FILENO, b"folder: not all could be written\n");
+    if let Err(why) = save(rt, path, text) {
+        fail(rt, "the summary cannot be written", why);
+        return;
+    }
+    if rt.write_all(text).is_err() {
+        let _ = eprintln!(rt; "folder: not all could be written");
     }
 }
 
 // The second time through, and what comes of it.
-fn summarise(fd: i32, today: u64, path: &[u8])
+fn summarise<R: Files + RandomSource + Print + Eprint>(
+    rt: &R,
+    file: &mut R::File,
+    today: u64,
+    path: &[u8],
+)
     requires { IsDate today }
 {
-    if libc::lseek(fd, 0, libc::SEEK_SET) != 0 {
-        os::fail(b"folder: the file cannot be read twice");
+    if let Err(why) = file.seek(SeekFrom::Start(0)) {
+        fail(rt, "the file cannot be read twice", why);
         return;
     }
     let mut text = [0u8; 16448];
-    let going = rows(fd, today, &mut text);
+    let going = rows(file, today, &mut text);
     if going.unread {
-        io::write_all(
-            STDERR_FILENO,
-            b"folder: the file could not be read again as it was\n",
-        );
+        let _ = eprintln!(rt; "folder: the file could not be read again as it was");
         return;
     }
     let n = close(today, going, &mut text);
-    publish(today, path, &text[..n]);
+    publish(rt, today, path, &text[..n]);
 }
 
 // Both times: "32 .., before any container".
-fn go_through(fd: i32, today: u64, path: &[u8])
+fn go_through<R: Files + RandomSource + Print + Eprint>(
+    rt: &R,
+    stderr: &(impl Eprint + IsTerminal),
+    file: &mut R::File,
+    today: u64,
+    path: &[u8],
+)
     requires { IsDate today }
 {
-    match go_over(fd) {
-        Gone::Unread => os::fail(b"folder: the file cannot be read"),
-        Gone::To(state) => {
+    match go_over(file, stderr) {
+        Err(why) => fail(rt, "the file cannot be read", why),
+        Ok(state) => {
             let number = prosianek::folder_end(today, state);
             if number != 0 {
-                refuse(number);
+                refuse(rt, number);
                 return;
             }
-            summarise(fd, today, path);
+            summarise(rt, file, today, path);
         }
     }
 }
 
+// Opens the folder for reading.
+fn open<R: Files>(rt: &R, path: &[u8]) -> io::Result<R::File> {
+    fs::open(rt, name_of(path)?)
+}
+
 // "2 for today comes first of all"
-fn main() {
+fn main(rt: HostRuntime) {
     let mut word = [0u8; 16];
-    let mut path = io::buffer();
-    let word_length = os::arg(1, &mut word);
-    let path_length = os::arg(2, &mut path);
+    let mut path = [0u8; 4096];
+    let word_length = rt.arg(1, &mut word).unwrap_or(0);
+    let path_length = rt.arg(2, &mut path).unwrap_or(0);
     let Date::Is(today) = dates::date_of(&word[..word_length]) else {
-        refuse(2);
+        refuse(&rt, 2);
         return;
     };
     if path_length == 0 {
-        io::write_all(
-            STDERR_FILENO,
-            b"folder: no file is named, or by a name that is too long\n",
-        );
+        let _ = eprintln!(rt; "folder: no file is named, or by a name that is too long");
         return;
     }
-    let fd = os::open_read(&path[..path_length]);
-    if fd < 0 {
-        os::fail(b"folder: the file cannot be opened");
-        return;
+    match open(&rt, &path[..path_length]) {
+        Err(why) => fail(&rt, "the file cannot be opened", why),
+        Ok(mut file) => go_through(&rt, &rt.stderr(), &mut file, today, &path[..path_length]),
     }
-    go_through(fd, today, &path[..path_length]);
-    libc::close(fd);
 }
