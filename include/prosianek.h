@@ -43,10 +43,10 @@ enum {
     // The bytes of the largest container.
     PROSIANEK_LARGEST_CONTAINER = 32768,
     // A room of this size holds the sheet of any container: a sheet has at most 6 bytes more than its container, which is
-    // proved (`room-for-sheet` in crates/promises/specs/Demands.antt).
+    // proved (`room_for_sheet` in crates/promises/specs/Demands.antt).
     PROSIANEK_SHEET_ROOM = 32774,
     // Lists of this many numbers hold the points of any container: two views have at most 128 each, which is proved
-    // (`most-points` in crates/promises/specs/Demands.antt).
+    // (`most_points` in crates/promises/specs/Demands.antt).
     PROSIANEK_MOST_POINTS = 256,
     // The most containers that a folder has.
     PROSIANEK_MOST_CONTAINERS = 256,
