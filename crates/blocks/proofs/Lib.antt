@@ -1,7 +1,5 @@
 pub mod Items
-pub mod Taking
 pub mod Shapes
-pub mod Ways
-pub mod Wrapped
+pub mod Told
 pub mod Exact
 pub mod Computed

@@ -1,71 +1,94 @@
 -- What the code answers of a block, and how it goes through items one after the other. `Reads` is said over the definition of a block; nothing else here
 -- has to be believed.
-use Rattle.std.specs.Prelude.{ℕ, ◌+◌, ◌-◌, ◌≤◌, ◌≡◌, List, length, take, drop}
+use Rattle.std.specs.Prelude.{ℕ, ◌+◌, ◌-◌, ◌≡◌, cond, List, [], ◌∷◌, Option as Maybe, Some, None, Result, Ok, Err, unwrap_or, eqb, length, take, drop}
 use Rattle.std.proofs.Math.Option.{none, some}
-use Rattle.der.specs.Der.{Item, primitive, constructed, Items, none as nothing, ◌then◌, der_bytes, all_bytes, Good, AllGood, tag_of}
-use Rattle.blocks.specs.Block.{SignedData, Tagged, parts, content_info, IsBlock, in_field, certificate, before, in_parts, place}
-use Rattle.blocks.specs.declared.Block.{Block}
-use Rattle.blocks.specs.declared.Block.TheVariants.{Bad, Empty, Holds}
+use Rattle.laws.specs.Tests.{same}
+use Rattle.heads.specs.Head.{head_of}
+use Rattle.heads.specs.declared.Head.{Head}
+use Rattle.heads.specs.declared.Head.TheVariants.{Leaf, Open}
+use Rattle.der.specs.Der.{Item, der_bytes}
+use Rattle.blocks.specs.Block.{SignedData, IsBlock, certificate, place}
 use Rattle.blocks.specs.declared.Part.{Part}
+use Rattle.blocks.specs.declared.Unsigned.{Unsigned}
+
+-- what a block is: no SignedData; one without a certificate; one whose first certificate stands from here to there
+abbrev pub Block : Type 0
+Block = Result (Maybe Part) Unsigned
+
+abbrev pub bad : Block
+bad = Err (record {})
 
 -- the whole answer: v is no block; or it is one and holds no certificate; or the certificate stands from here to there
 pub data Reads (v : List ℕ) (r : Block) : Type 0 where
-  no_block : ((s : SignedData) → IsBlock v s → ⊥) → r ≡ Bad → Reads v r
-  no_certificate : (s : SignedData) → IsBlock v s → certificate s ≡ none → r ≡ Empty → Reads v r
-  found : (s : SignedData) (c : Item) → IsBlock v s → certificate s ≡ some c → r ≡ Holds (place s) (place s + length (der_bytes c)) → Reads v r
+  no_block : ((s : SignedData) → IsBlock v s → ⊥) → r ≡ bad → Reads v r
+  no_certificate : (s : SignedData) → IsBlock v s → certificate s ≡ none → r ≡ Ok None → Reads v r
+  found : (s : SignedData) (c : Item) → IsBlock v s → certificate s ≡ some c → r ≡ Ok (Some (record { from = place s; to = place s + length (der_bytes c) })) → Reads v r
 
 -- ---- items one after the other
 
--- from `at` to `end` the bytes v are these items, and no others
-pub record Spans (v : List ℕ) (at end : ℕ) (ps : Items) : Type 0 where
-  pub ordered : at ≤ end
-  pub inside : end ≤ length v
-  pub good : AllGood ps
-  pub bytes : take (end - at) (drop at v) ≡ all_bytes ps
+-- an item that was found: its contents, of a constructed one, and what is behind it
+abbrev pub Found : Type 0
+Found = List ℕ × List ℕ
 
--- the contents of an item that starts at `at`, of a constructed one
-abbrev pub Opened : List ℕ → ℕ → Part → Item → Type 0
-Opened v at r (primitive t c) = Unit {0}
-Opened v at r (constructed t qs) = (r.from ≡ at + before qs) × Spans v r.from r.to qs
+abbrev pub by_head : Maybe Head → List ℕ → Maybe Found
+by_head None s = None
+by_head (Some (Leaf size)) s = Some ([], drop size s)
+by_head (Some (Open front size)) s = Some (take (size - front) (drop front s), drop size s)
 
--- of the items ps, from `at` to `end`, the first with its contents; no bytes, where there is none
-pub data Next (v : List ℕ) (at end : ℕ) (ps : Items) (r : Part) : Type 0 where
-  ended : ps ≡ nothing → r ≡ record { from = at; to = at } → Next v at end ps r
-  next : (i : Item) (rest : Items) → ps ≡ i then rest → Good i → r.to ≡ at + length (der_bytes i) → Opened v at r i → Spans v r.to end rest → Next v at end ps r
+-- the first of them
+unfoldable pub next : List ℕ → Maybe Found
+next s = by_head (head_of s) s
 
--- the first of some items has another tag
-abbrev pub NotFirst : ℕ → Items → Type 0
-NotFirst t nothing = Unit {0}
-NotFirst t (i then ps) = tag_of i ≡ t → ⊥
+-- the same, if it has the tag t
+unfoldable pub find : List ℕ → ℕ → Maybe Found
+find [] t = None
+find (b ∷ s) t = cond (eqb b t) (next (b ∷ s)) None
 
--- the same, if it has the tag t; else no bytes
-pub data Finds (v : List ℕ) (at end t : ℕ) (ps : Items) (r : Part) : Type 0 where
-  absent : NotFirst t ps → r ≡ record { from = at; to = at } → Finds v at end t ps r
-  there : (i : Item) (rest : Items) → ps ≡ i then rest → tag_of i ≡ t → Good i → r.to ≡ at + length (der_bytes i) → Opened v at r i → Spans v r.to end rest
-      → Finds v at end t ps r
+-- it may be absent
+abbrev pub optional : List ℕ → ℕ → Found
+optional s t = unwrap_or (find s t) ([], s)
 
--- whichever items these are
-abbrev pub Found : List ℕ → ℕ → ℕ → Part → Type 0
-Found v at end r = (ps : Items) → Spans v at end ps → Next v at end ps r
+-- it has to be there
+abbrev pub needed : Maybe Found → (Found → Block) → Block
+needed None k = bad
+needed (Some f) k = k f
 
-abbrev pub FoundTagged : List ℕ → ℕ → ℕ → ℕ → Part → Type 0
-FoundTagged v at end t r = (ps : Items) → Spans v at end ps → Finds v at end t ps r
+-- nothing may be behind
+abbrev pub ended : List ℕ → Block → Block
+ended s r = cond (eqb (length s) 0) r bad
 
--- the first of some items that start at `at`
-abbrev pub first_at : ℕ → Items → Block
-first_at at nothing = Empty
-first_at at (i then ps) = Holds at (at + length (der_bytes i))
+-- the first item in a field of these bytes that ends there
+abbrev pub first : ℕ → List ℕ → Maybe Found → Block
+first end inside None = Ok None
+first end inside (Some f) = Ok (Some (record { from = end - length inside; to = end - length f.1 }))
 
-abbrev pub FirstFound : List ℕ → ℕ → ℕ → Block → Type 0
-FirstFound v from to r = (ps : Items) → Spans v from to ps → r ≡ first_at from ps
+-- the parts of a SignedData, behind so many bytes
+abbrev pub signers : ℕ → Found → Found → Block
+signers end certificates crls = needed (find crls.1 0x31) (λ signers. ended signers.1 (first (end - length certificates.1) certificates.0 (next certificates.0)))
 
--- what is told of items that should be the parts of a SignedData, or of the item that should hold it
-pub data Tells (Of : SignedData → Type 0) (placed : SignedData → ℕ) (r : Block) : Type 0 where
-  none_is : ((s : SignedData) → Tagged s → Of s → ⊥) → r ≡ Bad → Tells Of placed r
-  one_is : (s : SignedData) → Tagged s → Of s → r ≡ first_at (placed s) (in_field s.certificates) → Tells Of placed r
+abbrev pub fields : ℕ → List ℕ → Block
+fields end s = let certificates = optional s 0xA0 in signers end certificates (optional certificates.1 0xA1)
 
-abbrev pub TellsParts : List ℕ → ℕ → ℕ → Block → Type 0
-TellsParts v from to r = (ps : Items) → Spans v from to ps → Tells (λ s. ps ≡ parts s) (λ s. from + in_parts s) r
+unfoldable pub signed_data : List ℕ → ℕ → Block
+signed_data s outside =
+    needed (find s 0x02) (λ version.
+    needed (find version.1 0x31) (λ digests.
+    needed (find digests.1 0x30) (λ content.
+    fields (outside + length s) content.1)))
 
-abbrev pub TellsItem : List ℕ → Block → Type 0
-TellsItem v r = (i : Item) → Good i → v ≡ der_bytes i → Tells (λ s. i ≡ content_info s) place r
+-- the item that holds it: the object identifier's bytes
+abbrev pub id_bytes : List ℕ
+id_bytes = 0x06 ∷ 0x09 ∷ 0x2A ∷ 0x86 ∷ 0x48 ∷ 0x86 ∷ 0xF7 ∷ 0x0D ∷ 0x01 ∷ 0x07 ∷ 0x02 ∷ []
+
+abbrev pub in_wrapped : ℕ → Found → Block
+in_wrapped end wrapped = ended wrapped.1 (needed (find wrapped.0 0x30) (λ signed. ended signed.1 (signed_data signed.0 (end - length signed.0))))
+
+abbrev pub in_info : ℕ → List ℕ → Block
+in_info end s =
+    needed (find s 0x06) (λ id.
+    cond (same (take (length s - length id.1) s) id_bytes)
+    (needed (find id.1 0xA0) (in_wrapped end))
+    bad)
+
+unfoldable pub content_info : List ℕ → Block
+content_info v = needed (find v 0x30) (λ info. in_info (length v) info.0)

@@ -2,13 +2,12 @@
 -- whole contract of one function: the record of the door's call, of the numbers that the function answers and stores. A verdict's tag is stored by its number. Nothing is left open (`promises`, `SettledForC`).
 use Rattle.std.specs.Prelude.{ℕ, ◌≡◌, List, length, get_or}
 use Rattle.fascn.specs.declared.Numbers.{Numbers}
-use Rattle.verdicts.specs.Verdicts.{tag_number}
-use Rattle.verdicts.specs.declared.Tag.{Tag}
-use Rattle.verdicts.specs.declared.Tag.TheVariants.{NoTag}
+use Rattle.verdicts.specs.Verdicts.{Tag, tag_number}
 use Rattle.views.specs.Views.{viewed}
 use Rattle.points.specs.Calls.{Five}
 use Rattle.signer.specs.Signer.{Signed, Says}
 use Rattle.prosianek.specs.Calls.{Checks, Writes, Reports, Lists, Decodes, Encodes}
+use Rattle.std.specs.Prelude.{None}
 
 -- nine numbers in 01's order: agency, system, credential, series, issue, person, category, organisation, association
 abbrev pub numbers_of : List ℕ → Numbers
@@ -45,7 +44,7 @@ pub record CViews (kind today : ℕ) (c : List ℕ) (element number place tag of
 
 -- no refusal of a report has another place than 0, or a tag
 pub record CReports (kind today : ℕ) (c before after : List ℕ) (number size : ℕ) : Type 0 where
-  pub answers : Reports kind today c before after (record { number = number; place = 0; tag = NoTag; length = size })
+  pub answers : Reports kind today c before after (record { number = number; place = 0; tag = None; length = size })
 
 pub record CLists (today : ℕ) (c : List ℕ) (before after : Five) (number place tag first second : ℕ) : Type 0 where
   pub there : Tag

@@ -6,9 +6,23 @@
 pub mod folder;
 
 ghost use Rattle.capi.specs.Calls.{CChecks, CWrites, CViews, CReports, CLists, CSigners, CDecodes, CEncodes};
+ghost use Rattle.std.specs.Prelude.{◌≡◌};
+ghost use Rattle.verdicts.specs.Verdicts.{tag_number};
 ghost use Rattle.points.specs.Calls.{five};
 
 use fascn::Numbers;
+use verdicts::Verdict;
+
+// A verdict is stored by its place and its tag, and answered by its number.
+fn told(verdict: Verdict, place: &mut u64, tag: &mut u64) -> u64
+    ensures number { result ≡ verdict.number }
+    ensures place { place.new ≡ verdict.place }
+    ensures tag { tag.new ≡ tag_number verdict.tag }
+{
+    *place = verdict.place;
+    *tag = verdicts::tag_number(verdict.tag);
+    verdict.number
+}
 
 pub fn prosianek_check(
     kind: u64,
@@ -23,13 +37,9 @@ pub fn prosianek_check(
     ensures { CChecks kind today container.now sheet.old sheet.new result place.new tag.new room.new length.new }
 {
     let checked = prosianek::check(kind, today, container, sheet);
-    let verdict = checked.verdict;
-    let there = verdict.tag;
-    *place = verdict.place;
-    *tag = verdicts::tag_number(there);
     *room = checked.room;
     *length = checked.length;
-    verdict.number
+    told(checked.verdict, place, tag)
 }
 
 pub fn prosianek_write(
@@ -44,9 +54,8 @@ pub fn prosianek_write(
     ensures { CWrites kind today sheet.now container.old container.new result place.new tag.new length.new }
 {
     let done = prosianek::write(kind, today, sheet, container);
-    let there = done.tag;
     *place = done.place;
-    *tag = verdicts::tag_number(there);
+    *tag = verdicts::tag_number(done.tag);
     *length = done.length;
     done.number
 }
@@ -64,14 +73,10 @@ pub fn prosianek_view(
 ) -> u64
     ensures { CViews kind today container.now element result place.new tag.new offset.new length.new }
 {
-    let part = views::locate(kind, today, container, element);
-    let verdict = part.verdict;
-    let there = verdict.tag;
-    *place = verdict.place;
-    *tag = verdicts::tag_number(there);
-    *offset = part.from as u64;
-    *length = (part.to - part.from) as u64;
-    verdict.number
+    let (verdict, part) = views::told(views::locate(kind, today, container, element));
+    *offset = part.start as u64;
+    *length = (part.end - part.start) as u64;
+    told(verdict, place, tag)
 }
 
 // No refusal of a report has another place than 0, or a tag.
@@ -105,13 +110,9 @@ pub fn prosianek_lists(
     ensures { CLists today container.now (five types.old xs.old ys.old angles.old qualities.old) (five types.new xs.new ys.new angles.new qualities.new) result place.new tag.new first.new second.new }
 {
     let listed = prosianek::lists(today, container, types, xs, ys, angles, qualities);
-    let verdict = listed.verdict;
-    let there = verdict.tag;
-    *place = verdict.place;
-    *tag = verdicts::tag_number(there);
     *first = listed.first;
     *second = listed.second;
-    verdict.number
+    told(listed.verdict, place, tag)
 }
 
 // The certificate is told by its offset in the container that is named, as the part of a view is.
@@ -128,15 +129,13 @@ pub fn prosianek_signer(
 ) -> u64
     ensures { CSigners kind today chuid.now biometric.now result place.new tag.new which.new offset.new length.new }
 {
-    let found = signer::locate(kind, today, chuid, biometric);
-    let verdict = found.verdict;
-    let there = verdict.tag;
-    *place = verdict.place;
-    *tag = verdicts::tag_number(there);
-    *which = found.which;
-    *offset = found.from as u64;
-    *length = (found.to - found.from) as u64;
-    verdict.number
+    let (verdict, holder, certificate) = signer::told(signer::locate(
+        kind, today, chuid, biometric,
+    ));
+    *which = holder;
+    *offset = certificate.start as u64;
+    *length = (certificate.end - certificate.start) as u64;
+    told(verdict, place, tag)
 }
 
 pub fn prosianek_fascn_decode(bytes: &[u8], numbers: &mut [u64; 9]) -> u64

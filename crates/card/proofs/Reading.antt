@@ -13,9 +13,9 @@ use Rattle.texts.specs.Text.{ascii}
 use Rattle.texts.proofs.Reading.{Reads, and, given, so, behind, Without, ended-reads}
 use Rattle.texts.proofs.Numbers.{number-reads, line_reads}
 use Rattle.verdicts.specs.Verdicts.{verdict_of}
-use Rattle.verdicts.specs.declared.Outcome.TheVariants.{Fine}
 use Rattle.kinds.specs.Tables.{IsKind}
 use Rattle.card.specs.Card.{names, kind_name, verdict_line, card_part}
+use Rattle.std.specs.Prelude.{Ok}
 
 -- the place of a name
 nth : List ℕ → List (List ℕ) → ℕ
@@ -43,7 +43,7 @@ pub kind-reads : (k l : ℕ) → IsKind k → IsKind l → Reads (kind_name k ++
 kind-reads k l i j =
     so (λ e. sym (named k i).0 ∙ ap kind_of e ∙ (named l j).0) (ended-reads 10 (kind_name k) (kind_name l) (named k i).1 (named l j).1)
 
-pub card-reads : (k l size size' t u : ℕ) → IsKind k → IsKind l → t < 10 ^ 8 → u < 10 ^ 8 → Reads (card_part k size t (verdict_of Fine)) (card_part l size' u (verdict_of Fine)) ((k ≡ l) × (t ≡ u))
+pub card-reads : (k l size size' t u : ℕ) → IsKind k → IsKind l → t < 10 ^ 8 → u < 10 ^ 8 → Reads (card_part k size t (verdict_of (Ok tt))) (card_part l size' u (verdict_of (Ok tt))) ((k ≡ l) × (t ≡ u))
 unfolding card_part
 card-reads k l size size' t u i j g h =
     so (λ r. (r.0.0.0, r.0.1))
@@ -51,4 +51,4 @@ card-reads k l size size' t u i j g h =
     (and
     (and (behind (ascii "CARD 4\nkind ") (kind-reads k l i j)) (behind (ascii "bytes ") (number-reads 10 (omega arith) size size')))
     (behind (ascii "today ") (line_reads 8 t u g h)))
-    (given (verdict_line (verdict_of Fine))))
+    (given (verdict_line (verdict_of (Ok tt)))))

@@ -16,12 +16,12 @@ use Rattle.laws.proofs.Layouts.{field-one}
 use Rattle.laws.proofs.Formats.{LongEnough, long-enough, cond-and, cond_same}
 use Rattle.verdicts.specs.Verdicts.{ruled}
 use Rattle.verdicts.specs.declared.Fault.{Fault}
-use Rattle.verdicts.specs.declared.Ruling.TheVariants.{Kept, Breaks}
 use Rattle.verdicts.specs.declared.Fault.TheVariants.{BadHeader, BadFascn}
 use Rattle.fascn.specs.Reading.{is_fascn}
 use Rattle.cbeff.specs.Header.{data_part, header}
 use Rattle.cbeff.specs.Judged.{size_tests, sizes_hold, dates_hold, form_holds, opens, judged}
 use Rattle.cbeff.specs.declared.Biometric.{Biometric}
+use Rattle.std.specs.Prelude.{Ok, Err}
 
 -- what the sizes say where they hold: d and s are not zero, and the length is as they make it
 pub sizes-told : (b : Biometric) (d : ℕ) (v : List ℕ) → sizes_hold b d v ≡ true → (1 ≤ d) × (1 ≤ field v 6 2) × (88 + d + field v 6 2 ≡ length v)
@@ -68,7 +68,7 @@ size_of b v o =
 
 -- what follows them, in the code's answer
 ends : (x : Fault) (f r d : Bool)
-    → cond f (cond r (cond d Kept (Breaks x)) (Breaks BadHeader)) (Breaks BadFascn)
+    → cond f (cond r (cond d (Ok tt) (Err x)) (Err BadHeader)) (Err BadFascn)
     ≡ ruled (cond f (cond r (cond d kept (breaks x)) (breaks BadHeader)) (breaks BadFascn))
 ends x true true true = refl
 ends x true true false = refl

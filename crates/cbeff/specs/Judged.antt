@@ -2,8 +2,6 @@
 use Rattle.std.specs.Prelude.{ℕ, ◌+◌, ◌/◌, Bool, cond, ◌&&◌, List, [], ◌∷◌, length, get_or, leb, eqb}
 use Rattle.laws.specs.Layout.{field, part}
 use Rattle.laws.specs.Tests.{all}
-use Rattle.verdicts.specs.declared.Ruling.{Ruling}
-use Rattle.verdicts.specs.declared.Ruling.TheVariants.{Kept, Breaks}
 use Rattle.verdicts.specs.declared.Fault.TheVariants.{BadHeader, BadFascn}
 use Rattle.fascn.specs.Reading.{is_fascn}
 use Rattle.dates.specs.Moment.{is_moment}
@@ -11,6 +9,8 @@ use Rattle.plain.specs.Plain.{is_creator}
 use Rattle.plain.specs.Quality.{is_quality}
 use Rattle.cbeff.specs.Header.{data_part}
 use Rattle.cbeff.specs.declared.Biometric.{Biometric}
+use Rattle.std.specs.Prelude.{Ok, Err}
+use Rattle.verdicts.specs.Verdicts.{Ruling}
 
 -- version, security, d, s and the length of the whole, owner, format
 abbrev pub size_tests : Biometric → ℕ → List ℕ → List Bool
@@ -46,7 +46,7 @@ judged b v =
     cond (leb 88 (length v) && opens b v)
     (cond (is_fascn (part v 59 25))
     (cond (eqb (field v 84 4) 0)
-    (cond ((data_part b.body).test (part v 88 (field v 2 4))) Kept (Breaks b.broken))
-    (Breaks BadHeader))
-    (Breaks BadFascn))
-    (Breaks BadHeader)
+    (cond ((data_part b.body).test (part v 88 (field v 2 4))) (Ok tt) (Err b.broken))
+    (Err BadHeader))
+    (Err BadFascn))
+    (Err BadHeader)

@@ -1,4 +1,5 @@
-// The value of BC: the CBEFF header, field by field in 01's order, and its data part.
+// The value of BC: the CBEFF header, field by field in 01's order,
+// and its data part.
 #![tactic(auto)]
 
 ghost use Rattle.std.specs.Prelude.{◌≡◌, ◌^◌, ◌<◌, ◌≤◌, length};
@@ -14,7 +15,7 @@ use iris::is_iris;
 use minutiae::is_minutiae;
 use numbers::number;
 use plain::{is_creator, is_quality};
-use verdicts::{Fault, Ruling};
+use verdicts::Fault;
 
 // What the data part of a format is.
 #[derive(Clone, Copy)]
@@ -37,6 +38,7 @@ pub struct Biometric {
     pub broken: Fault,
 }
 
+// Stays a function, and so do the next two: of a constant no contract says that it is `fingers`.
 // "format 0201 fingers", "type 000008 fingers", "data type, top three bits 100 fingers"; its data are minutiae.
 pub fn fingers() -> Biometric
     ensures { result ≡ fingers }
@@ -84,6 +86,7 @@ pub fn iris() -> Biometric
 }
 
 // Version, security, the lengths, owner, format. The data length d is handed in, since the data are found by it too.
+#[tactic(auto, unfolding(crate::specs::Judged::sizes_hold))]
 fn sizes_hold(b: Biometric, d: u64, v: &[u8]) -> bool
     requires { (88 ≤ length v.now) × (d < 256 ^ 4) }
     ensures { result ≡ sizes_hold b d v.now }
@@ -99,17 +102,12 @@ fn sizes_hold(b: Biometric, d: u64, v: &[u8]) -> bool
 }
 
 // "creation date (8), validity from and to (16), from not after to": moments are in order by the numbers of their bytes.
+#[tactic(auto, unfolding(crate::specs::Judged::dates_hold))]
 fn dates_hold(v: &[u8]) -> bool
     requires { 88 ≤ length v.now }
     ensures { result ≡ dates_hold v.now }
 {
-    if !is_moment(&v[12..20]) {
-        return false;
-    }
-    if !is_moment(&v[20..28]) {
-        return false;
-    }
-    if !is_moment(&v[28..36]) {
+    if !(is_moment(&v[12..20]) && is_moment(&v[20..28]) && is_moment(&v[28..36])) {
         return false;
     }
     let from = number(v, 20, 8);
@@ -118,6 +116,7 @@ fn dates_hold(v: &[u8]) -> bool
 }
 
 // Type, data type, quality, creator.
+#[tactic(auto, unfolding(crate::specs::Judged::form_holds))]
 fn form_holds(b: Biometric, v: &[u8]) -> bool
     requires { 88 ≤ length v.now }
     ensures { result ≡ form_holds b v.now }
@@ -141,33 +140,31 @@ fn data_holds(body: Body, bytes: &[u8]) -> bool
 
 // The value of a BC of this format, judged in the order of the rules: a value that is too short for its header breaks the
 // length rule, and every fault that could come before that one is the same.
-pub fn judge(b: Biometric, v: &[u8]) -> Ruling
+pub fn judge(b: Biometric, v: &[u8]) -> Result<(), Fault>
     ensures { result ≡ ruled (judge (header b (length v.now)) 0 v.now) }
 {
     if v.len() < 88 {
-        return Ruling::Breaks(Fault::BadHeader);
+        return Err(Fault::BadHeader);
     }
     let d = number(v, 2, 4);
     if !sizes_hold(b, d, v) {
-        return Ruling::Breaks(Fault::BadHeader);
+        return Err(Fault::BadHeader);
     }
     if !dates_hold(v) {
-        return Ruling::Breaks(Fault::BadHeader);
+        return Err(Fault::BadHeader);
     }
     if !form_holds(b, v) {
-        return Ruling::Breaks(Fault::BadHeader);
+        return Err(Fault::BadHeader);
     }
     if !is_fascn(&v[59..84]) {
-        return Ruling::Breaks(Fault::BadFascn);
+        return Err(Fault::BadFascn);
     }
     if number(v, 84, 4) != 0 {
-        return Ruling::Breaks(Fault::BadHeader);
+        return Err(Fault::BadHeader);
     }
-    let body = b.body;
-    let broken = b.broken;
     let end = 88 + d as usize;
-    if !data_holds(body, &v[88..end]) {
-        return Ruling::Breaks(broken);
+    if !data_holds(b.body, &v[88..end]) {
+        return Err(b.broken);
     }
-    Ruling::Kept
+    Ok(())
 }

@@ -3,13 +3,13 @@ use Prim.Native.Nat.{ℕ, zero, suc, ◌+◌, ◌-◌, ◌<◌, ◌≤◌}
 use mathlib.Core.Path.{◌≡◌, refl, sym, ap, ap₂, ◌∙◌}
 use mathlib.Core.List.{List, [], ◌∷◌, ◌++◌, map, append_assoc, append-nil}
 use native.Mathlib.Omega.{arith}
-use native.Mathlib.Numerals.{add-one}
-use lib.ListN.{length, take, drop, set, replicate, get_or, length-set, length-append, length-drop, length-replicate, replicate-append-replicate, take-append-drop, drop_of_length-le}
+use lib.ListN.{length, take, drop, set, replicate, get_or, length-append, length-drop, take-append-drop}
 use lib.Seq.{take_at, drop_at, drop-cons, set_at, length-take-le, drop-length, drop-drop}
 use Rattle.laws.specs.Room.{zeros}
-use Rattle.points.specs.Calls.{nothing, entries}
+use Rattle.points.specs.Calls.{nothing, entries, Five, five, HoldsEach}
 use Rattle.points.specs.Places.{along}
-use Rattle.columns.specs.Columns.{spliced}
+use Rattle.columns.specs.Columns.{spliced, Same, put_at, put_all}
+use Rattle.columns.specs.declared.Columns.{Columns}
 use Rattle.points.specs.declared.Point.{Point}
 use Rattle.points.proofs.Along.{along-length, along-same, along-join}
 
@@ -98,33 +98,33 @@ cleared g z f m l h =
     let k : length (along f 0 m) ≤ length l = rw along-length h in
     rw (front, spliced-length (λ i. g (f i)) 0 m l (omega arith), entries-front g (along f 0 m) (length l) k, along-length, along-map, z)
 
--- ---- zeros behind the first entries of a list: none yet, one more, all
+-- ---- five lists in which points are put: none yet, one more
 
-pub zero-first : (from : ℕ) (l : List ℕ) → l ≡ take from l ++ zeros (from - from) ++ drop from l
-zero-first from l =
-    let z : from - from ≡ 0 = omega arith in
-    rw (z, append-nil (take from l)) (sym (take-append-drop from l))
+pub put_none : (f : ℕ → Point) (from : ℕ) (l : Five) → l ≡ put_all f from 0 l
+put_none f from l =
+    sym (λ j. five (spliced-none (λ i. (f i).sort) from l.types j) (spliced-none (λ i. (f i).x) from l.xs j) (spliced-none (λ i. (f i).y) from l.ys j)
+    (spliced-none (λ i. (f i).angle) from l.angles j) (spliced-none (λ i. (f i).quality) from l.qualities j))
 
-pub zero-next : (from i : ℕ) (l : List ℕ) → from ≤ i → i < length l
-    → set (take from l ++ zeros (i - from) ++ drop i l) i 0 ≡ take from l ++ zeros (i + 1 - from) ++ drop (i + 1) l
-zero-next from i l h k =
-    let front : List ℕ = take from l ++ zeros (i - from) in
-    let n : length front ≡ i = rw (length-append, length-take-le from l (omega arith), length-replicate) (omega arith) in
-    let e : i + 1 - from ≡ i - from + 1 = omega arith in
-    ap (λ (r : List ℕ). set (front ++ r) i 0) (drop-cons l i 0 k) ∙ set_at front (get_or l i 0) (drop (suc i) l) 0 i n
-    ∙ rw (e, ← replicate-append-replicate {A = ℕ} (i - from) 1 0, ← append_assoc (take from l) (zeros (i - from)) (zeros 1), add-one i, append_assoc front (zeros 1) (drop (suc i) l))
+pub put_next : (f : ℕ → Point) (from i n k : ℕ) (before now after : Five) → HoldsEach before k → i + 1 ≡ n → from + n ≤ k → now ≡ put_all f from i before
+    → after ≡ put_at (f i) (from + i) now → after ≡ put_all f from n before
+put_next f from i n k before now after h e b p a =
+    a ∙ ap (put_at (f i) (from + i)) p
+    ∙ (λ j. five (spliced-next (λ i. (f i).sort) from i before.types 0 (omega (arith, h.0)) j) (spliced-next (λ i. (f i).x) from i before.xs 0 (omega (arith, h.1)) j)
+    (spliced-next (λ i. (f i).y) from i before.ys 0 (omega (arith, h.2)) j) (spliced-next (λ i. (f i).angle) from i before.angles 0 (omega (arith, h.3)) j)
+    (spliced-next (λ i. (f i).quality) from i before.qualities 0 (omega (arith, h.4)) j))
+    ∙ ap (λ m. put_all f from m before) e
 
-pub zero-last : (from i : ℕ) (l : List ℕ) → length l ≤ i → i - from ≡ length l - from → take from l ++ zeros (i - from) ++ drop i l ≡ take from l ++ zeros (length l - from)
-zero-last from i l h e = rw (e, drop_of_length-le l h) (append-nil (take from l ++ zeros (length l - from)))
+-- they are as long as they were
+pub put_holds : (f : ℕ → Point) (from i n k : ℕ) (before now : Five) → HoldsEach before k → from + i ≤ k → n ≤ k → now ≡ put_all f from i before → HoldsEach now n
+put_holds f from i n k before now h b l e =
+    rw e (
+      rw (spliced-length (λ i. (f i).sort) from i before.types (omega (arith, h.0))) (omega (arith, h.0)),
+      rw (spliced-length (λ i. (f i).x) from i before.xs (omega (arith, h.1))) (omega (arith, h.1)),
+      rw (spliced-length (λ i. (f i).y) from i before.ys (omega (arith, h.2))) (omega (arith, h.2)),
+      rw (spliced-length (λ i. (f i).angle) from i before.angles (omega (arith, h.3))) (omega (arith, h.3)),
+      rw (spliced-length (λ i. (f i).quality) from i before.qualities (omega (arith, h.4))) (omega (arith, h.4)),
+    )
 
--- ---- a turn of a loop that replaces entries of a list: i of them are put
-
-abbrev pub Put : (ℕ → ℕ) → ℕ → ℕ → List ℕ → List ℕ → Type 0
-Put f from i before l = (length l ≡ length before) × (l ≡ spliced f from i before)
-
-pub put_first : (f : ℕ → ℕ) (from : ℕ) (before : List ℕ) → Put f from 0 before before
-put_first f from before = (refl, sym (spliced-none f from before))
-
-pub put_next : (f : ℕ → ℕ) (from i n : ℕ) (before l after : List ℕ) → i + 1 ≡ n → from + i < length before → Put f from i before l → after ≡ set l (from + i) (f i)
-    → Put f from n before after
-put_next f from i n before l after e h p a = rw (a, ← e) (length-set l (from + i) (f i) ∙ p.0, rw p.1 (spliced-next f from i before 0 h))
+-- and the same lists
+pub same_on : {l m n : Columns} → Same l m → Same m n → Same l n
+same_on s t = record { types = t.types ∙ s.types; xs = t.xs ∙ s.xs; ys = t.ys ∙ s.ys; angles = t.angles ∙ s.angles; qualities = t.qualities ∙ s.qualities }

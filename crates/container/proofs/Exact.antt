@@ -18,7 +18,7 @@ use Rattle.kinds.specs.Tables.{Entry, Table}
 use Rattle.verdicts.specs.declared.Finding.{Finding}
 use Rattle.container.specs.Container.{Values, Spellings, tag_bytes, long, has, spelled, Allowed, Formed}
 use Rattle.container.specs.Reading.{Parsed, values, fault, Part, values_of, prepend, Element, whole, broken, element, tag_here, follow, parse}
-use Rattle.container.proofs.Rows.{Distinct}
+use Rattle.container.proofs.Walking.{Distinct}
 use Rattle.container.proofs.Tags.{Plain, Tags, tag_is, begins}
 use Rattle.container.proofs.One.{Good, element-is, element-of, good-fits, fits-good}
 

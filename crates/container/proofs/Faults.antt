@@ -15,17 +15,18 @@ use Rattle.laws.proofs.Bases.{below-take, below-drop}
 use Rattle.laws.proofs.Cases.{which, not_so, no-some}
 use Rattle.lengths.specs.Length.{read_length, Spelt}
 use Rattle.lengths.proofs.Spellings.{exact, reads, else-none}
-use Rattle.kinds.specs.Tables.{Lengths, permitted}
+use Rattle.kinds.specs.Tables.{permitted}
+use Rattle.kinds.specs.declared.Lengths.{Lengths}
 use Rattle.kinds.specs.declared.ValueRule.{ValueRule}
 use Rattle.rules.specs.Rules.{rule_of}
 use Rattle.rules.proofs.Exact.{broken-exact}
 use Rattle.verdicts.specs.declared.Fault.{Fault}
-use Rattle.verdicts.specs.declared.Ruling.{Ruling}
-use Rattle.verdicts.specs.declared.Ruling.TheVariants.{Kept, Breaks}
 use Rattle.container.specs.Reading.{broken, ended, sized, within, element}
 use Rattle.container.specs.InOrder.{IsLength, Faulty, no_length, past_end, not_permitted, bad_value}
 use Rattle.container.proofs.One.{no_whole, permitted-exact}
 use Rattle.container.proofs.Exact.{bytes-front, bytes_back}
+use Rattle.std.specs.Prelude.{Ok, Err}
+use Rattle.verdicts.specs.Verdicts.{Ruling}
 
 -- ---- a length
 
@@ -53,9 +54,9 @@ module _ (l : Lengths) (rule : ValueRule) (today : ℕ) (f : Fault) where
   fault-is : {g : Fault} → broken g ≡ broken f → f ≡ g
   fault-is e = cc
 
-  ended-broken : (w : ℕ) (v : List ℕ) (r : Ruling) → ended w v r ≡ broken f → r ≡ Breaks f
-  ended-broken w v Kept e = absurd (no_whole (sym e))
-  ended-broken w v (Breaks g) e = ap Breaks (sym (fault-is e))
+  ended-broken : (w : ℕ) (v : List ℕ) (r : Ruling) → ended w v r ≡ broken f → r ≡ Err f
+  ended-broken w v (Ok _) e = absurd (no_whole (sym e))
+  ended-broken w v (Err g) e = ap Err (sym (fault-is e))
 
   broken-faulty : (s : List ℕ) → Bytes s → element l rule today s ≡ broken f → Faulty l rule today s f
   unfolding element

@@ -15,9 +15,7 @@ use Rattle.laws.specs.Bytes.{Bytes}
 use Rattle.laws.proofs.Bases.{below-drop}
 use Rattle.laws.proofs.Cases.{which}
 use Rattle.kinds.specs.Tables.{Entry, Table}
-use Rattle.verdicts.specs.Verdicts.{found}
-use Rattle.verdicts.specs.declared.Tag.{Tag}
-use Rattle.verdicts.specs.declared.Tag.TheVariants.{NoTag, Of}
+use Rattle.verdicts.specs.Verdicts.{Tag, found}
 use Rattle.verdicts.specs.declared.Finding.{Finding}
 use Rattle.verdicts.specs.declared.Fault.{Fault}
 use Rattle.verdicts.specs.declared.Fault.TheVariants.{UnknownTag, TagOrder, MissingRow}
@@ -28,6 +26,7 @@ use Rattle.container.proofs.Tags.{Tags, tag_is, tag_read, tag-stands}
 use Rattle.container.proofs.One.{element-is, good-fits}
 use Rattle.container.proofs.Exact.{bytes-front, bytes_back, element-length}
 use Rattle.container.proofs.Faults.{faulty-exact}
+use Rattle.std.specs.Prelude.{Some, None}
 
 -- ---- what is wrong where the walk over the rows stops
 
@@ -110,7 +109,7 @@ skip today all r rs at s f o k b = go b.rows b.vs refl refl b.allowed
         }
 
 -- the end of the bytes
-owes : (today : ℕ) (all : Table) (at : ℕ) (rest : Table) {f : Finding} → parse today all rest at [] ≡ fault f → Owed rest × (f ≡ found MissingRow at NoTag)
+owes : (today : ℕ) (all : Table) (at : ℕ) (rest : Table) {f : Finding} → parse today all rest at [] ≡ fault f → Owed rest × (f ≡ found MissingRow at None)
 owes today all at [] e = let z : ◌≡◌ {A = ℕ} 0 1 = cc in absurd (omega arith)
 owes today all at (r ∷ rs) {f} e =
     elim (which r.optional) [
@@ -163,7 +162,7 @@ module _ (today : ℕ) (all : Table) where
       in_row [] r rs refl q (λ h. h) (rw q ((faulty-exact r.lengths r.rule today (drop (long r.tag) (x ∷ s)) (below-drop 256 (long r.tag) (x ∷ s) b) f).0 e))
 
   follow-fault : (at t : ℕ) (x : Element) (k : ℕ → Parsed Part) {f : Finding} → follow at t x k ≡ fault f
-      → {P : Type 0} → ((g : Fault) → x ≡ broken g → f ≡ found g at (Of t) → P) → ((w : ℕ) (v : List ℕ) → x ≡ whole w v → k (w + length v) ≡ fault f → P) → P
+      → {P : Type 0} → ((g : Fault) → x ≡ broken g → f ≡ found g at (Some t) → P) → ((w : ℕ) (v : List ℕ) → x ≡ whole w v → k (w + length v) ≡ fault f → P) → P
   follow-fault at t (whole w v) k e here on = on w v refl (fault-of (some (record { offset = at + long t + w; bytes = v })) (k (w + length v)) e)
   follow-fault at t (broken g) k e here on = here g refl (finding-is e)
 
@@ -172,7 +171,7 @@ module _ (today : ℕ) (all : Table) where
 
 -- the fault that is read is the first one, and its tag is the one that stands there
 module _ (today : ℕ) (all : Table) (p : Tags all all) where
-  here : (rest : Table) (at x : ℕ) (s : List ℕ) → Bytes (x ∷ s) → {f : Finding} {g : Fault} → f ≡ found g at (Of (tag_here all x s))
+  here : (rest : Table) (at x : ℕ) (s : List ℕ) → Bytes (x ∷ s) → {f : Finding} {g : Fault} → f ≡ found g at (Some (tag_here all x s))
       → AtFault today all rest (tag_here all x s) (drop (long (tag_here all x s)) (x ∷ s)) g → First today all rest at (x ∷ s) f
   here rest at x s b e w = at_once today all rest at (x ∷ s) e (at_element (tag_here all x s) _ (tag-stands all p x s b.0) w refl)
 
@@ -196,7 +195,7 @@ module _ (today : ℕ) (all : Table) (p : Tags all all) where
             elim (which r.optional) [
               | inl o ↦ skip today all r rs at (x ∷ s) f o (passing-wrong r rs x s b q o) (first rs at (x ∷ s) b f (fault-of none (parse today all rs at (x ∷ s)) (rw (q, o) at e)))
               | inr o ↦
-                  let z : fault (found (misplaced all rs (tag_here all x s)) at (Of (tag_here all x s))) ≡ fault f = rw (q, o) at e in
+                  let z : fault (found (misplaced all rs (tag_here all x s)) at (Some (tag_here all x s))) ≡ fault f = rw (q, o) at e in
                   here (r ∷ rs) at x s b (finding-is z) (missing today all (tag_here all x s) _ r rs q o)
             ]
       ]

@@ -1,7 +1,7 @@
 -- The length and the value of an element, by the tests that the code makes. Assumes nothing.
 use Prim.Native.Nat.{ℕ, ◌+◌, ◌-◌, ◌≤◌, ◌<◌}
-use mathlib.Core.Path.{◌≡◌, sym, ap, ◌∙◌}
-use mathlib.Core.Bool.{Bool, true, false}
+use mathlib.Core.Path.{◌≡◌, refl, sym, ap, ◌∙◌}
+use mathlib.Core.Bool.{Bool, true, false, cond}
 use mathlib.Core.Option.{some}
 use mathlib.Core.List.{List}
 use native.Mathlib.Omega.{arith}
@@ -9,70 +9,73 @@ use lib.ListN.{length, take, drop, length-drop}
 use lib.Seq.{drop-drop, length-take-le}
 use borrow.Author.Tests.{lt-ltb, le-ltb}
 use Rattle.lengths.specs.Length.{read_length, length_at}
-use Rattle.lengths.specs.declared.Length.TheVariants.{Is, Bad as LengthBad}
 use Rattle.lengths.proofs.Reading.{some_read, none_read}
 use Rattle.lengths.proofs.Spellings.{inside as spelling-inside}
-use Rattle.kinds.specs.Tables.{permits}
-use Rattle.kinds.specs.declared.ValueRule.{ValueRule}
-use Rattle.rules.specs.Rules.{rule_of}
+use Rattle.kinds.specs.declared.Row.{Row}
+use Rattle.rules.specs.Rules.{fitting}
+use Rattle.verdicts.specs.Verdicts.{Ruling}
 use Rattle.verdicts.specs.declared.Fault.{Fault}
 use Rattle.verdicts.specs.declared.Fault.TheVariants.{LengthForm, Overrun, ElementLength}
-use Rattle.verdicts.specs.declared.Ruling.TheVariants.{Kept, Breaks}
-use Rattle.container.specs.Reading.{element, within}
-use Rattle.container.specs.Map.{value_at, lengths_of}
-use Rattle.container.specs.declared.Value.TheVariants.{Bad, Whole}
+use Rattle.container.specs.Reading.{Element, broken, ended, element, within}
+use Rattle.container.specs.Map.{value_at}
+use Rattle.std.specs.Prelude.{Some, None, Ok, Err}
+use Rattle.lengths.specs.declared.Length.{Length}
 
-module _ (c : List ℕ) (at least most : ℕ) (empty : Bool) (rule : ValueRule) (today : ℕ) where
-  pub no_length : LengthBad ≡ length_at at (drop at c) → Bad LengthForm ≡ value_at at (element (lengths_of least most empty) rule today (drop at c))
+-- the size and the rules of a value are one judgement
+by-fit : (b : Bool) (k : Ruling) (w : ℕ) (v : List ℕ) → cond b (ended w v k) (broken ElementLength) ≡ ended w v (cond b k (Err ElementLength))
+by-fit true k w v = refl
+by-fit false k w v = refl
+
+module _ (c : List ℕ) (at : ℕ) (row : Row) (today : ℕ) where
+  abbrev here : Element
+  here = element row.lengths row.rule today (drop at c)
+
+  pub no_length : None ≡ length_at at (drop at c) → Err LengthForm ≡ value_at at here
   unfolding element value_at
   no_length f = rw (none_read at (drop at c) f)
 
-  module _ {n next : ℕ} (f : Is n next ≡ length_at at (drop at c)) where
-    spelt : (w : ℕ) × (read_length (drop at c) ≡ some (record { number = n; width = w })) × (next ≡ at + w)
+  module _ {l : Length} (f : Some l ≡ length_at at (drop at c)) where
+    spelt : (w : ℕ) × (read_length (drop at c) ≡ some (record { number = l.number; width = w })) × (l.next ≡ at + w)
     spelt = some_read at (drop at c) f
 
     -- an offset past the end reads no length
-    pub inside : next ≤ length c
+    pub inside : l.next ≤ length c
     inside =
-        let r = spelling-inside (drop at c) (record { number = n; width = spelt.0 }) spelt.1 in
+        let r = spelling-inside (drop at c) (record { number = l.number; width = spelt.0 }) spelt.1 in
         omega (arith, r.0, r.2, spelt.2, length-drop at c)
 
-    is : element (lengths_of least most empty) rule today (drop at c) ≡ within (lengths_of least most empty) rule today (record { number = n; width = spelt.0 }) (drop next c)
+    is : here ≡ within row.lengths row.rule today (record { number = l.number; width = spelt.0 }) (drop l.next c)
     unfolding element
     is =
         rw spelt.1
-        (ap (within (lengths_of least most empty) rule today (record { number = n; width = spelt.0 })) (drop-drop spelt.0 at c ∙ ap (λ (k : ℕ). drop k c) (sym spelt.2)))
+        (ap (within row.lengths row.rule today (record { number = l.number; width = spelt.0 })) (drop-drop spelt.0 at c ∙ ap (λ (k : ℕ). drop k c) (sym spelt.2)))
 
-    pub over : length c - next < n → Bad Overrun ≡ value_at at (element (lengths_of least most empty) rule today (drop at c))
+    pub over : length c - l.next < l.number → Err Overrun ≡ value_at at here
     unfolding value_at
-    over k = let k' : length (drop next c) < n = rw length-drop k in rw is (simp (lt-ltb _ _ k'))
+    over k = let k' : length (drop l.next c) < l.number = rw length-drop k in rw is (simp (lt-ltb _ _ k'))
 
-    module _ (k : n ≤ length c - next) where
+    module _ (k : l.number ≤ length c - l.next) where
       abbrev value : List ℕ
-      value = take n (drop next c)
+      value = take (l.next + l.number - l.next) (drop l.next c)
 
-      fits : n ≤ length (drop next c)
+      many : l.next + l.number - l.next ≡ l.number
+      many = omega arith
+
+      fits : l.number ≤ length (drop l.next c)
       fits = rw length-drop k
 
-      long : length value ≡ n
-      long = length-take-le n (drop next c) fits
+      long : length value ≡ l.number
+      long = rw many (length-take-le l.number (drop l.next c) fits)
 
-      pub wrong_size : permits least most empty n ≡ false → Bad ElementLength ≡ value_at at (element (lengths_of least most empty) rule today (drop at c))
+      judged : here ≡ ended spelt.0 value (fitting row today value)
+      judged = is ∙ rw (le-ltb _ _ fits, many) (by-fit _ _ spelt.0 (take l.number (drop l.next c)))
+
+      pub broke : {f : Fault} → Err f ≡ fitting row today value → Err f ≡ value_at at here
       unfolding value_at
-      wrong_size p =
-          let p' : permits least most empty (length value) ≡ false = rw long p in
-          rw is (simp (le-ltb _ _ fits, p'))
+      broke e = rw (judged, ← e)
 
-      module _ (p : permits least most empty n ≡ true) where
-        p' : permits least most empty (length value) ≡ true
-        p' = rw long p
-
-        pub broke : {f : Fault} → Breaks f ≡ rule_of rule today value → Bad f ≡ value_at at (element (lengths_of least most empty) rule today (drop at c))
-        unfolding value_at
-        broke e = rw is (simp (le-ltb _ _ fits, p', ← e))
-
-        pub ends : Kept ≡ rule_of rule today value → Whole next (next + n) ≡ value_at at (element (lengths_of least most empty) rule today (drop at c))
-        unfolding value_at
-        ends e =
-            let z : at + spelt.0 ≡ next = omega (arith, spelt.2) in
-            rw is (simp (le-ltb _ _ fits, p', ← e) (rw (long, z)))
+      pub ends : Ok tt ≡ fitting row today value → Ok (record { start = l.next; end = l.next + l.number }) ≡ value_at at here
+      unfolding value_at
+      ends e =
+          let z : at + spelt.0 ≡ l.next = omega (arith, spelt.2) in
+          rw (judged, ← e, long, z)

@@ -1,9 +1,10 @@
 pub mod One
-pub mod Rows
+pub mod Walking
 pub mod Tags
 pub mod Exact
 pub mod Promise
 pub mod Forms
+pub mod Allowing
 pub mod Lengthy
 pub mod Noting
 pub mod Turn

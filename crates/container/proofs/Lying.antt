@@ -2,7 +2,7 @@
 use Prim.Native.Nat.{ℕ, zero, suc, ◌+◌, ◌-◌, ◌<◌, ◌≤◌}
 use mathlib.Core.Logic.{inl, inr}
 use mathlib.Core.Path.{◌≡◌, refl, sym, ap, ap₂, ◌∙◌}
-use mathlib.Core.Bool.{cond}
+use mathlib.Core.Bool.{cond, true}
 use mathlib.Core.Option.{Option, none, some}
 use mathlib.Core.List.{List, [], ◌∷◌, ◌++◌}
 use native.Mathlib.Nat.{add-sub_cancel_left}
@@ -13,26 +13,26 @@ use lib.ListN.{length, take, drop, get_or, set, length-set, length-append, lengt
 use lib.Seq.{drop-drop, drop-append_seam, take-append_seam, get_or-set_same, get_or-set_other}
 use borrow.Author.Tests.{eqb-true, ne_eqb}
 use Rattle.laws.specs.Bytes.{Bytes}
-use Rattle.laws.specs.Room.{zeros}
 use Rattle.laws.proofs.Bases.{below-drop}
 use Rattle.laws.proofs.Cases.{test, which}
 use Rattle.lengths.specs.Length.{read_length, Spelt}
 use Rattle.lengths.proofs.Spellings.{spelt-some}
 use Rattle.kinds.specs.Tables.{Entry, Table, table, IsKind}
 use Rattle.verdicts.specs.Verdicts.{found}
-use Rattle.verdicts.specs.declared.Tag.TheVariants.{Of}
 use Rattle.verdicts.specs.declared.Finding.{Finding}
-use Rattle.verdicts.specs.declared.Outcome.TheVariants.{Fine, Broken}
-use Rattle.container.specs.Container.{Values, tag_bytes, long, outer_tag, Allowed, largest}
-use Rattle.container.specs.Reading.{Parsed, values, fault, Part, values_of, alone, prepend, Element, whole, broken, element, tag_here, follow, parse, inner, outer, located, parsed, outcome_of}
-use Rattle.container.specs.Map.{laid, noted, map_of, row_value, row_values}
-use Rattle.container.specs.declared.Map.{Map}
+use Rattle.container.specs.Container.{Values, tag_bytes, long, outer_tag, Allowed, Conforms, largest}
+use Rattle.container.specs.Reading.{Parsed, values, fault, Part, values_of, alone, prepend, Element, whole, broken, element, tag_here, follow, parse, inner, outer, located, parsed}
+use Rattle.container.specs.Spans.{absent, no_rows}
+use Rattle.container.specs.Map.{laid, noted, map_of, row_value, row_values, allows}
+use Rattle.container.specs.declared.rows.Span.{Span}
 use Rattle.container.proofs.One.{element-is}
 use Rattle.container.proofs.Tags.{tag_is}
-use Rattle.container.proofs.Noting.{none-noted, map-outcome}
+use Rattle.container.proofs.Noting.{none-noted}
+use Rattle.container.proofs.Allowing.{allows-exact, shown-bytes}
 use Rattle.container.proofs.Exact.{no-values}
-use Rattle.container.proofs.Promise.{in-outer-values, located-conforms}
+use Rattle.container.proofs.Promise.{in-outer-values, located-conforms, exact}
 use Rattle.kinds.proofs.Every.{few-rows}
+use Rattle.std.specs.Prelude.{Some, Ok, Err}
 
 -- ---- what holds of every reading: of none, of a finding, past an absent row and past an element
 
@@ -54,7 +54,7 @@ module _ (today : ℕ) (all : Table) (P : ℕ → Table → List ℕ → Parsed 
         → ((w : ℕ) (v : List ℕ) → x ≡ whole w v → P at (r ∷ rs) s (prepend (some (record { offset = at + long r.tag + w; bytes = v })) (k (w + length v))))
         → P at (r ∷ rs) s (follow at r.tag x k)
     followed at r rs s (whole w v) k h = h w v refl
-    followed at r rs s (broken f) k h = stops at (r ∷ rs) s (found f at (Of r.tag))
+    followed at r rs s (broken f) k h = stops at (r ∷ rs) s (found f at (Some r.tag))
 
     pub parse-by : (rest : Table) (at : ℕ) (s : List ℕ) → Bytes s → P at rest s (parse today all rest at s)
     parse-by [] at [] b = ended at
@@ -90,9 +90,9 @@ module _ (c : List ℕ) where
   Sit (values ps) = All ps
   Sit (fault f) = Unit {0}
 
-  absent : (p : Parsed Part) → Sit p → Sit (prepend none p)
-  absent (values ps) l = l
-  absent (fault f) l = tt
+  passed-over : (p : Parsed Part) → Sit p → Sit (prepend none p)
+  passed-over (values ps) l = l
+  passed-over (fault f) l = tt
 
   present : (q : Part) (p : Parsed Part) → Stands q → Sit p → Sit (prepend (some q) p)
   present q (values ps) h l = (h, l)
@@ -126,7 +126,7 @@ module _ (c : List ℕ) where
 
     parse-sits : (rest : Table) (at : ℕ) (s : List ℕ) → Bytes s → s ≡ drop at c → Sit (parse today all rest at s)
     parse-sits =
-        parse-by today all (λ at rest s x. s ≡ drop at c → Sit x) (λ at e. tt) (λ at rest s f e. tt) (λ at r rs s x h e. absent x (h e))
+        parse-by today all (λ at rest s x. s ≡ drop at c → Sit x) (λ at e. tt) (λ at rest s f e. tt) (λ at r rs s x h e. passed-over x (h e))
         (λ at r rs b s bb q w v is x h e. present _ x (element-stands r at b s bb e q w v is) (h (onward r.tag at (w + length v) (b ∷ s) e)))
 
 outer-sits : (kind today : ℕ) (c : List ℕ) → Bytes c → (ps : List (Option Part)) → outer kind today c ≡ values ps → All c ps
@@ -166,42 +166,40 @@ abbrev pub end_of : Option Part → ℕ
 end_of none = 0
 end_of (some p) = p.offset + length p.bytes
 
--- a map notes these parts from the row k on
-abbrev Notes : Map → ℕ → List (Option Part) → Type 0
-Notes m k ps = (i : ℕ) → i < length ps → (get_or m.from (k + i) 0 ≡ start_of (get_or ps i none)) × (get_or m.to (k + i) 0 ≡ end_of (get_or ps i none))
+-- from where to where a part lies, as a row of a map
+abbrev pub span_of : Option Part → Span
+span_of o = record { from = start_of o; to = end_of o }
+
+-- some rows note these parts from the row k on
+abbrev Notes : List Span → ℕ → List (Option Part) → Type 0
+Notes rows k ps = (i : ℕ) → i < length ps → get_or rows (k + i) absent ≡ span_of (get_or ps i none)
 
 -- rows behind stay as they are
-laid-before : (ps : List (Option Part)) (k : ℕ) (from to : List ℕ) (j : ℕ) → j < k → (get_or (laid ps k from to).from j 0 ≡ get_or from j 0) × (get_or (laid ps k from to).to j 0 ≡ get_or to j 0)
-laid-before [] k from to j h = (refl, refl)
-laid-before (none ∷ ps) k from to j h = laid-before ps (suc k) from to j (omega arith)
-laid-before (some p ∷ ps) k from to j h =
-    let l = laid-before ps (suc k) (set from k p.offset) (set to k (p.offset + length p.bytes)) j (omega arith) in
-    (l.0 ∙ get_or-set_other from k j p.offset 0 (λ e. omega arith), l.1 ∙ get_or-set_other to k j (p.offset + length p.bytes) 0 (λ e. omega arith))
+laid-before : (ps : List (Option Part)) (k : ℕ) (rows : List Span) (j : ℕ) → j < k → get_or (laid ps k rows) j absent ≡ get_or rows j absent
+laid-before [] k rows j h = refl
+laid-before (none ∷ ps) k rows j h = laid-before ps (suc k) rows j (omega arith)
+laid-before (some p ∷ ps) k rows j h =
+    laid-before ps (suc k) (set rows k (span_of (some p))) j (omega arith) ∙ get_or-set_other rows k j (span_of (some p)) absent (λ e. omega arith)
 
 -- nothing is noted from the row k on
-abbrev Empty : List ℕ → ℕ → Type 0
-Empty l k = (j : ℕ) → k ≤ j → get_or l j 0 ≡ 0
+abbrev Empty : List Span → ℕ → Type 0
+Empty rows k = (j : ℕ) → k ≤ j → get_or rows j absent ≡ absent
 
 -- the first row, and the others
-notes-next : (m : Map) (k : ℕ) (o : Option Part) (ps : List (Option Part)) → (get_or m.from k 0 ≡ start_of o) × (get_or m.to k 0 ≡ end_of o) → Notes m (suc k) ps → Notes m k (o ∷ ps)
-notes-next m k o ps h n zero l = let z : k + zero ≡ k = omega arith in rw z h
-notes-next m k o ps h n (suc i) l = let z : k + suc i ≡ suc k + i = omega arith in rw z (n i (omega arith))
+notes-next : (rows : List Span) (k : ℕ) (o : Option Part) (ps : List (Option Part)) → get_or rows k absent ≡ span_of o → Notes rows (suc k) ps → Notes rows k (o ∷ ps)
+notes-next rows k o ps h n zero l = let z : k + zero ≡ k = omega arith in rw z h
+notes-next rows k o ps h n (suc i) l = let z : k + suc i ≡ suc k + i = omega arith in rw z (n i (omega arith))
 
-laid-notes : (ps : List (Option Part)) (k : ℕ) (from to : List ℕ) → k + length ps ≤ length from → k + length ps ≤ length to → Empty from k → Empty to k → Notes (laid ps k from to) k ps
-laid-notes [] k from to a b e f = λ i h. absurd (omega arith)
-laid-notes (none ∷ ps) k from to a b e f =
-    let l = laid-before ps (suc k) from to k (omega arith) in
-    notes-next (laid ps (suc k) from to) k none ps (l.0 ∙ e k (omega arith), l.1 ∙ f k (omega arith))
-    (laid-notes ps (suc k) from to (omega arith) (omega arith) (λ j g. e j (omega arith)) (λ j g. f j (omega arith)))
-laid-notes (some p ∷ ps) k from to a b e f =
-    let from' = set from k p.offset in
-    let to' = set to k (p.offset + length p.bytes) in
-    let l = laid-before ps (suc k) from' to' k (omega arith) in
-    notes-next (laid ps (suc k) from' to') k (some p) ps
-    (l.0 ∙ get_or-set_same from k p.offset 0 (omega arith), l.1 ∙ get_or-set_same to k (p.offset + length p.bytes) 0 (omega arith))
-    (laid-notes ps (suc k) from' to' (rw length-set (omega arith)) (rw length-set (omega arith))
-    (λ j g. get_or-set_other from k j p.offset 0 (λ q. omega arith) ∙ e j (omega arith))
-    (λ j g. get_or-set_other to k j (p.offset + length p.bytes) 0 (λ q. omega arith) ∙ f j (omega arith)))
+laid-notes : (ps : List (Option Part)) (k : ℕ) (rows : List Span) → k + length ps ≤ length rows → Empty rows k → Notes (laid ps k rows) k ps
+laid-notes [] k rows a e = λ i h. absurd (omega arith)
+laid-notes (none ∷ ps) k rows a e =
+    notes-next (laid ps (suc k) rows) k none ps (laid-before ps (suc k) rows k (omega arith) ∙ e k (omega arith))
+    (laid-notes ps (suc k) rows (omega arith) (λ j g. e j (omega arith)))
+laid-notes (some p ∷ ps) k rows a e =
+    let more = set rows k (span_of (some p)) in
+    notes-next (laid ps (suc k) more) k (some p) ps
+    (laid-before ps (suc k) more k (omega arith) ∙ get_or-set_same rows k (span_of (some p)) absent (omega arith))
+    (laid-notes ps (suc k) more (rw length-set (omega arith)) (λ j g. get_or-set_other rows k j (span_of (some p)) absent (λ q. omega arith) ∙ e j (omega arith)))
 
 -- a value for each row
 allowed-long : (today : ℕ) (rs : Table) (ps : List (Option Part)) → Allowed today rs (values_of ps) → length ps ≡ length rs
@@ -217,86 +215,89 @@ module _ (kind today : ℕ) (c : List ℕ) (b : Bytes c) (ps : List (Option Part
   rows_are = allowed-long today (table kind) ps (located-conforms kind today c b ps e).allowed
 
   -- where each row lies
-  pub lies : (i : ℕ) → i < length ps
-      → (get_or (map_of (located kind today c)).from i 0 ≡ start_of (get_or ps i none)) × (get_or (map_of (located kind today c)).to i 0 ≡ end_of (get_or ps i none))
-  unfolding noted
+  pub lies : (i : ℕ) → i < length ps → get_or (laid ps 0 no_rows) i absent ≡ span_of (get_or ps i none)
   lies i h =
       let z : 0 + i ≡ i = omega arith in
-      let n = laid-notes ps 0 (zeros 16) (zeros 16) (omega (arith, rows_are, few-rows kind)) (omega (arith, rows_are, few-rows kind)) (λ j g. none-noted j) (λ j g. none-noted j) i h in
-      rw e (rw z at n)
+      rw z at (laid-notes ps 0 no_rows (omega (arith, rows_are, few-rows kind)) (λ j g. none-noted j) i h)
 
 -- ---- and shows its bytes
 
--- the first of some rows that a map notes, and the others
-first-notes : (m : Map) (k : ℕ) (o : Option Part) (ps : List (Option Part)) → Notes m k (o ∷ ps) → (get_or m.from k 0 ≡ start_of o) × (get_or m.to k 0 ≡ end_of o)
-first-notes m k o ps n = let z : k + 0 ≡ k = omega arith in rw z at (n 0 (omega arith))
+-- the first of some rows that are noted, and the others
+first-notes : (rows : List Span) (k : ℕ) (o : Option Part) (ps : List (Option Part)) → Notes rows k (o ∷ ps) → get_or rows k absent ≡ span_of o
+first-notes rows k o ps n = let z : k + 0 ≡ k = omega arith in rw z at (n 0 (omega arith))
 
-later-notes : (m : Map) (k : ℕ) (o : Option Part) (ps : List (Option Part)) → Notes m k (o ∷ ps) → Notes m (suc k) ps
-later-notes m k o ps n i l = let z : k + suc i ≡ suc k + i = omega arith in rw z at (n (suc i) (omega arith))
+later-notes : (rows : List Span) (k : ℕ) (o : Option Part) (ps : List (Option Part)) → Notes rows k (o ∷ ps) → Notes rows (suc k) ps
+later-notes rows k o ps n i l = let z : k + suc i ≡ suc k + i = omega arith in rw z at (n (suc i) (omega arith))
 
-module _ (m : Map) (c : List ℕ) where
-  row_shows : (k : ℕ) (p : Part) → Stands c p → (get_or m.from k 0 ≡ p.offset) × (get_or m.to k 0 ≡ p.offset + length p.bytes) → row_value m.from m.to c k ≡ some p.bytes
+module _ (rows : List Span) (c : List ℕ) where
+  row_shows : (k : ℕ) (p : Part) → Stands c p → get_or rows k absent ≡ span_of (some p) → row_value rows c k ≡ some p.bytes
   row_shows k p s h =
       let n : p.offset + length p.bytes ≡ 0 → ⊥ = λ e. omega (arith, s.behind) in
-      rw (h.0, h.1, ne_eqb _ _ n, add-sub_cancel_left, s.bytes)
+      rw (h, ne_eqb _ _ n, add-sub_cancel_left, s.bytes)
 
-  rows-show : (ps : List (Option Part)) (k : ℕ) → All c ps → Notes m k ps → row_values m.from m.to c (length ps) k ≡ values_of ps
+  rows-show : (ps : List (Option Part)) (k : ℕ) → All c ps → Notes rows k ps → row_values rows c (length ps) k ≡ values_of ps
   unfolding row_values
   rows-show [] k a n = refl
-  rows-show (none ∷ ps) k a n = rw (first-notes m k none ps n).1 (ap (λ (l : Values). none ∷ l) (rows-show ps (suc k) a (later-notes m k none ps n)))
+  rows-show (none ∷ ps) k a n = rw (first-notes rows k none ps n) (ap (λ (l : Values). none ∷ l) (rows-show ps (suc k) a (later-notes rows k none ps n)))
   rows-show (some p ∷ ps) k a n =
-      ap₂ (λ (o : Option (List ℕ)) (l : Values). o ∷ l) (row_shows k p a.0 (first-notes m k (some p) ps n)) (rows-show ps (suc k) a.1 (later-notes m k (some p) ps n))
+      ap₂ (λ (o : Option (List ℕ)) (l : Values). o ∷ l) (row_shows k p a.0 (first-notes rows k (some p) ps n)) (rows-show ps (suc k) a.1 (later-notes rows k (some p) ps n))
 
 -- the row that is next, of n rows, and those after it
-pub next_row : (starts ends c : List ℕ) (n i : ℕ) → i < n → row_values starts ends c (n - i) i ≡ row_value starts ends c i ∷ row_values starts ends c (n - (i + 1)) (i + 1)
+pub next_row : (rows : List Span) (c : List ℕ) (n i : ℕ) → i < n → row_values rows c (n - i) i ≡ row_value rows c i ∷ row_values rows c (n - (i + 1)) (i + 1)
 unfolding row_values
-next_row starts ends c n i h = let z : n - i ≡ suc (n - (i + 1)) = omega arith in rw (z, ← add-one i)
+next_row rows c n i h = let z : n - i ≡ suc (n - (i + 1)) = omega arith in rw (z, ← add-one i)
 
 -- the values that a container's map shows
-abbrev pub map_values : ℕ → Map → List ℕ → Values
-map_values kind m c = row_values m.from m.to c (length (table kind)) 0
+abbrev pub map_values : ℕ → List Span → List ℕ → Values
+map_values kind rows c = row_values rows c (length (table kind)) 0
 
 -- are those that were read
-pub shows : (kind today : ℕ) (c : List ℕ) → Bytes c → (ps : List (Option Part)) → located kind today c ≡ values ps → map_values kind (map_of (located kind today c)) c ≡ values_of ps
+pub shows : (kind today : ℕ) (c : List ℕ) → Bytes c → (ps : List (Option Part)) → located kind today c ≡ values ps → map_values kind (laid ps 0 no_rows) c ≡ values_of ps
 shows kind today c b ps e =
     rw (← rows_are kind today c b ps e)
-    (rows-show (map_of (located kind today c)) c ps 0 (stands kind today c b ps e) (λ i h. let z : 0 + i ≡ i = omega arith in rw z (lies kind today c b ps e i h)))
+    (rows-show (laid ps 0 no_rows) c ps 0 (stands kind today c b ps e) (λ i h. let z : 0 + i ≡ i = omega arith in rw z (lies kind today c b ps e i h)))
 
--- ---- what a caller of the judge knows, once it has looked at the outcome
+-- ---- what a caller of the judge knows, once it has looked at its answer
 
-module _ (kind today : ℕ) (c : List ℕ) {m : Map} (e : m ≡ map_of (located kind today c)) where
-  outcome-is : m.outcome ≡ outcome_of (alone (located kind today c))
-  outcome-is = ap (λ (m : Map). m.outcome) e ∙ map-outcome (located kind today c)
+-- something is wrong
+pub told-broken : (kind today : ℕ) (c : List ℕ) {f : Finding} → Err f ≡ map_of (located kind today c) → located kind today c ≡ fault f
+unfolding noted
+told-broken kind today c {f} e = go (located kind today c) e
+  where
+    go : (p : Parsed Part) → Err f ≡ map_of p → p ≡ fault f
+    go (values ps) q = let z : ◌≡◌ {A = ℕ} 0 1 = cc in absurd (omega arith)
+    go (fault g) q = cc
 
-  -- something is wrong
-  pub told-broken : {f : Finding} → m.outcome ≡ Broken f → located kind today c ≡ fault f
-  told-broken {f} o = go (located kind today c) (sym outcome-is ∙ o)
+pub read-broken : (kind today : ℕ) (c : List ℕ) {f : Finding} → Err f ≡ map_of (located kind today c) → parsed kind today c ≡ fault f
+unfolding parsed
+read-broken kind today c e = ap alone (told-broken kind today c e)
+
+-- nothing is: there are parts, and the rows are where they lie
+module _ (kind today : ℕ) (c : List ℕ) {rows : List Span} (e : Ok rows ≡ map_of (located kind today c)) where
+  pub told-fine : (ps : List (Option Part)) × (located kind today c ≡ values ps) × (rows ≡ laid ps 0 no_rows)
+  unfolding noted
+  told-fine = go (located kind today c) refl e
     where
-      go : (p : Parsed Part) → outcome_of (alone p) ≡ Broken f → p ≡ fault f
-      go (values ps) q = let z : ◌≡◌ {A = ℕ} 0 1 = cc in absurd (omega arith)
-      go (fault g) q = cc
-
-  pub read-broken : {f : Finding} → m.outcome ≡ Broken f → parsed kind today c ≡ fault f
-  unfolding parsed
-  read-broken o = ap alone (told-broken o)
-
-  -- nothing is: there are parts
-  pub told-fine : m.outcome ≡ Fine → (ps : List (Option Part)) × (located kind today c ≡ values ps)
-  told-fine o = go (located kind today c) refl (sym outcome-is ∙ o)
-    where
-      go : (p : Parsed Part) → located kind today c ≡ p → outcome_of (alone p) ≡ Fine → (ps : List (Option Part)) × (located kind today c ≡ values ps)
-      go (values ps) q z = (ps, q)
+      go : (p : Parsed Part) → located kind today c ≡ p → Ok rows ≡ map_of p → (ps : List (Option Part)) × (located kind today c ≡ values ps) × (rows ≡ laid ps 0 no_rows)
+      go (values ps) q z = (ps, q, cc)
       go (fault f) q z = let z : ◌≡◌ {A = ℕ} 0 1 = cc in absurd (omega arith)
 
-  pub fine-kind : m.outcome ≡ Fine → IsKind kind
-  fine-kind o = let (ps, q) = told-fine o in (in-outer-values kind today c ps q).0
+  pub fine-kind : IsKind kind
+  fine-kind = let (ps, q, r) = told-fine in (in-outer-values kind today c ps q).0
 
-  pub fine-size : m.outcome ≡ Fine → length c ≤ largest
-  fine-size o = let (ps, q) = told-fine o in (in-outer-values kind today c ps q).2
+  pub fine-size : length c ≤ largest
+  fine-size = let (ps, q, r) = told-fine in (in-outer-values kind today c ps q).2
 
   -- and their values are what the map shows
-  pub read-fine : Bytes c → m.outcome ≡ Fine → parsed kind today c ≡ values (map_values kind m c)
+  pub read-fine : Bytes c → parsed kind today c ≡ values (map_values kind rows c)
   unfolding parsed
-  read-fine b o =
-      let (ps, q) = told-fine o in
-      ap alone q ∙ ap values (sym (rw (← e) at (shows kind today c b ps q)))
+  read-fine b =
+      let (ps, q, r) = told-fine in
+      ap alone q ∙ ap values (sym (rw (← r) at (shows kind today c b ps q)))
+
+  -- so the values that it shows conform, and are allowed by the test too
+  pub fine-conforms : Bytes c → Conforms kind today (map_values kind rows c) c
+  fine-conforms b = (exact kind today c b (map_values kind rows c)).0 (read-fine b)
+
+  pub fine-allowed : Bytes c → allows today (table kind) (map_values kind rows c) ≡ true
+  fine-allowed b = (allows-exact today (table kind) (map_values kind rows c) (shown-bytes rows c (length (table kind)) 0 b)).1 (fine-conforms b).allowed

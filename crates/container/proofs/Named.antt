@@ -15,21 +15,20 @@ use Rattle.laws.proofs.Cases.{which, not_so}
 use Rattle.dates.specs.Date.{IsDate, is_date}
 use Rattle.dates.proofs.Dates.{date-exact}
 use Rattle.kinds.specs.Tables.{Entry, Table, table, IsKind, is_kind}
-use Rattle.verdicts.specs.Verdicts.{found}
-use Rattle.verdicts.specs.declared.Tag.{Tag}
-use Rattle.verdicts.specs.declared.Tag.TheVariants.{NoTag, Of}
+use Rattle.verdicts.specs.Verdicts.{Tag, found}
 use Rattle.verdicts.specs.declared.Finding.{Finding}
 use Rattle.verdicts.specs.declared.Fault.{Fault}
 use Rattle.verdicts.specs.declared.Fault.TheVariants.{UnknownTag, TagOrder, MissingRow}
 use Rattle.container.specs.Container.{Values, Spellings, tag_bytes, long, has, spelled, outer_tag, Allowed, Formed, Conforms, largest}
 use Rattle.container.specs.Reading.{Parsed, fault, prepend, broken, element, tag_here, parse, outer, located, parsed}
 use Rattle.container.specs.InOrder.{Owed, AtFault, not_in_table, not_to_come, passed_over, in_row, Wrong, at_end, at_element, LastThere, First, Named, no_kind, no_date, too_large, at_outer_tag, at_outer_length, at_outer_end, in_element}
-use Rattle.container.proofs.Rows.{Distinct, gone}
+use Rattle.container.proofs.Walking.{Distinct, gone}
 use Rattle.container.proofs.Tags.{Tags, tags, distinct, begins, no-tag, tag_read}
 use Rattle.container.proofs.One.{fits-good}
 use Rattle.container.proofs.Exact.{Apart, skips, part_at, takes, bytes-front, bytes_back, element-length, no-values}
 use Rattle.container.proofs.Faults.{length-read, none_read, faulty-exact}
 use Rattle.container.proofs.Promise.{kind-exact, exact, named}
+use Rattle.std.specs.Prelude.{Some, None}
 
 -- a mandatory row is not the optional one
 pub later : (r : Entry) (rs : Table) → r.optional ≡ true → Owed (r ∷ rs) → Owed rs
@@ -45,7 +44,7 @@ has-mid (x ∷ xs) r after = elim (which (eqb r.tag x.tag)) [
 
 module _ (today : ℕ) (all : Table) where
   -- at the end of the bytes
-  owing : (rest : Table) (at : ℕ) → Owed rest → parse today all rest at [] ≡ fault (found MissingRow at NoTag)
+  owing : (rest : Table) (at : ℕ) → Owed rest → parse today all rest at [] ≡ fault (found MissingRow at None)
   owing [] at h = absurd h
   owing (r ∷ rs) at h = elim (which r.optional) [
     | inl o ↦ rw o (ap (prepend none) (owing rs at (later r rs o h)))
@@ -66,7 +65,7 @@ module _ (today : ℕ) (all : Table) where
     owed x xs o (inr (n, e)) = absurd (n (inl o))
 
     to_row : (before : Table) → Distinct (before ++ (r ∷ after)) → Stops before
-        → parse today all (before ++ (r ∷ after)) at (b ∷ s) ≡ fault (found f at (Of (tag_here all b s)))
+        → parse today all (before ++ (r ∷ after)) at (b ∷ s) ≡ fault (found f at (Some (tag_here all b s)))
     to_row [] d (inl (w, e)) = absurd w
     to_row [] d (inr (n, e)) = rw (eq-eqb _ _ z, e, z)
     to_row (x ∷ xs) d c =
@@ -82,11 +81,11 @@ module _ (today : ℕ) (all : Table) where
 
   module _ (f : Fault) where
     none-to-come : (rest : Table) (at b : ℕ) (s : List ℕ) → has (tag_here all b s) rest ≡ false → f ≡ cond (has (tag_here all b s) all) TagOrder UnknownTag
-        → parse today all rest at (b ∷ s) ≡ fault (found f at (Of (tag_here all b s)))
-    none-to-come rest at b s h e = gone today all at b s rest h ∙ ap (λ (g : Fault). fault (found g at (Of (tag_here all b s)))) (sym e)
+        → parse today all rest at (b ∷ s) ≡ fault (found f at (Some (tag_here all b s)))
+    none-to-come rest at b s h e = gone today all at b s rest h ∙ ap (λ (g : Fault). fault (found g at (Some (tag_here all b s)))) (sym e)
 
     faulted : (rest : Table) (at b : ℕ) (s : List ℕ) → Bytes (b ∷ s) → Distinct rest → ((t : ℕ) → has t all ≡ false → has t rest ≡ false)
-        → AtFault today all rest (tag_here all b s) (drop (long (tag_here all b s)) (b ∷ s)) f → parse today all rest at (b ∷ s) ≡ fault (found f at (Of (tag_here all b s)))
+        → AtFault today all rest (tag_here all b s) (drop (long (tag_here all b s)) (b ∷ s)) f → parse today all rest at (b ∷ s) ≡ fault (found f at (Some (tag_here all b s)))
     faulted rest at b s u d k (not_in_table h e) = none-to-come rest at b s (k _ h) (rw h e)
     faulted rest at b s u d k (not_to_come h g e) = none-to-come rest at b s g (rw h e)
     faulted rest at b s u d k (passed_over before r after q z w e) =

@@ -15,15 +15,16 @@ use Rattle.laws.specs.Bytes.{Bytes}
 use Rattle.laws.proofs.Cases.{which, and-true, and_is, either, or_left, or_right}
 use Rattle.lengths.specs.Length.{Spells, read_length, Spelt}
 use Rattle.lengths.proofs.Spellings.{exact, reads, inside}
-use Rattle.kinds.specs.Tables.{Entry, Lengths, Permitted, permitted}
+use Rattle.kinds.specs.Tables.{Entry, Permitted, permitted}
+use Rattle.kinds.specs.declared.Lengths.{Lengths}
 use Rattle.kinds.specs.declared.ValueRule.{ValueRule}
 use Rattle.rules.specs.Rules.{rule_of}
 use Rattle.rules.proofs.Exact.{value-exact}
 use Rattle.verdicts.specs.declared.Fault.{Fault}
-use Rattle.verdicts.specs.declared.Ruling.{Ruling}
-use Rattle.verdicts.specs.declared.Ruling.TheVariants.{Kept, Breaks}
 use Rattle.container.specs.Container.{Fits}
 use Rattle.container.specs.Reading.{whole, broken, ended, sized, within, element}
+use Rattle.std.specs.Prelude.{Ok, Err}
+use Rattle.verdicts.specs.Verdicts.{Ruling}
 
 pub no_whole : {f : Fault} {w : ℕ} {v : List ℕ} → broken f ≡ whole w v → ⊥
 no_whole e = let z : ◌≡◌ {A = ℕ} 0 1 = cc in omega arith
@@ -47,11 +48,11 @@ permitted-exact l n = (there, back)
 module _ (l : Lengths) (rule : ValueRule) (today : ℕ) where
   -- a value that its row takes, by the tests
   abbrev pub Good : List ℕ → Type 0
-  Good v = (permitted l (length v) ≡ true) × (rule_of rule today v ≡ Kept)
+  Good v = (permitted l (length v) ≡ true) × (rule_of rule today v ≡ (Ok tt))
 
-  ended_is : (m n : ℕ) (u v : List ℕ) (r : Ruling) → ended m u r ≡ whole n v → (u ≡ v) × (m ≡ n) × (r ≡ Kept)
-  ended_is m n u v Kept e = (cc, cc, refl)
-  ended_is m n u v (Breaks f) e = absurd (no_whole e)
+  ended_is : (m n : ℕ) (u v : List ℕ) (r : Ruling) → ended m u r ≡ whole n v → (u ≡ v) × (m ≡ n) × (r ≡ (Ok tt))
+  ended_is m n u v (Ok _) e = (cc, cc, refl)
+  ended_is m n u v (Err f) e = absurd (no_whole e)
 
   sized-is : (m n : ℕ) (u v : List ℕ) → sized l rule today m u ≡ whole n v → (u ≡ v) × (m ≡ n) × Good u
   sized-is m n u v e =

@@ -19,10 +19,8 @@ use Rattle.lengths.proofs.Spellings.{exact as spelling-exact, reads}
 use Rattle.dates.specs.Date.{IsDate, is_date}
 use Rattle.dates.proofs.Dates.{date-exact}
 use Rattle.kinds.specs.Tables.{Table, table, IsKind, is_kind}
-use Rattle.verdicts.specs.Verdicts.{outright, verdict_of}
+use Rattle.verdicts.specs.Verdicts.{Outcome, outright, verdict_of}
 use Rattle.verdicts.proofs.Apart.{never-zero}
-use Rattle.verdicts.specs.declared.Outcome.{Outcome}
-use Rattle.verdicts.specs.declared.Outcome.TheVariants.{Fine, Broken}
 use Rattle.container.specs.Container.{Values, Forms, spelled, outer_tag, container_in, Allowed, Formed, largest, Conforms}
 use Rattle.container.specs.Reading.{Parsed, values, fault, Part, values_of, alone, inner, outer, located, parsed, outcome_of, outcome, verdict}
 use Rattle.container.proofs.Tags.{distinct, tags}
@@ -32,6 +30,7 @@ use Rattle.container.proofs.Faults.{read_length_lem, none_read}
 use Rattle.container.proofs.InOrder.{finding-is, first}
 use Rattle.verdicts.specs.declared.Finding.{Finding}
 use Rattle.verdicts.specs.declared.Fault.TheVariants.{LargeContainer}
+use Rattle.std.specs.Prelude.{Ok, Err}
 
 pub kind-exact : (kind : ℕ) → (is_kind kind ≡ true) ↔ IsKind kind
 kind-exact kind = (
@@ -152,17 +151,17 @@ unique kind today c b vs ws h k =
     let e : values vs ≡ values ws = sym (conforms-parsed kind today c b vs h) ∙ conforms-parsed kind today c b ws k in
     cc
 
-pub fine-exact : (kind today : ℕ) (c : List ℕ) → Bytes c → (outcome kind today c ≡ Fine) ↔ ((vs : Values) × Conforms kind today vs c)
+pub fine-exact : (kind today : ℕ) (c : List ℕ) → Bytes c → (outcome kind today c ≡ (Ok tt)) ↔ ((vs : Values) × Conforms kind today vs c)
 unfolding outcome
 fine-exact kind today c b = (go (parsed kind today c) refl, λ h. ap outcome_of (conforms-parsed kind today c b h.0 h.1))
   where
-    go : (p : Parsed (List ℕ)) → parsed kind today c ≡ p → outcome_of p ≡ Fine → (vs : Values) × Conforms kind today vs c
+    go : (p : Parsed (List ℕ)) → parsed kind today c ≡ p → outcome_of p ≡ (Ok tt) → (vs : Values) × Conforms kind today vs c
     go (values vs) e z = (vs, parsed-conforms kind today c b vs e)
     go (fault f) e z = let y : ◌≡◌ {A = ℕ} 0 1 = cc in absurd (omega arith)
 
-zero-fine : (o : Outcome) → ((verdict_of o).number ≡ 0) ↔ (o ≡ Fine)
-zero-fine Fine = (λ e. refl, λ e. refl)
-zero-fine (Broken f) = (λ e. absurd (never-zero f.fault e), λ e. ap (λ (o : Outcome). (verdict_of o).number) e)
+zero-fine : (o : Outcome) → ((verdict_of o).number ≡ 0) ↔ (o ≡ (Ok tt))
+zero-fine (Ok _) = (λ e. refl, λ e. refl)
+zero-fine (Err f) = (λ e. absurd (never-zero f.fault e), λ e. ap (λ (o : Outcome). (verdict_of o).number) e)
 
 -- in 01's number: the verdict is 0 exactly when there are values that are allowed and written as these bytes
 pub exactly_when : (kind today : ℕ) (c : List ℕ) → Bytes c → ((verdict kind today c).number ≡ 0) ↔ ((vs : Values) × Conforms kind today vs c)

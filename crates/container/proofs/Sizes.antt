@@ -12,7 +12,8 @@ use lib.ListN.{length, drop, length-drop}
 use Rattle.lengths.specs.Length.{Spelt, read_length}
 use Rattle.lengths.proofs.Spellings.{inside}
 use Rattle.dates.specs.Date.{is_date}
-use Rattle.kinds.specs.Tables.{Lengths, Entry, Table, table, Permitted, is_kind}
+use Rattle.kinds.specs.Tables.{Entry, Table, table, Permitted, is_kind}
+use Rattle.kinds.specs.declared.Lengths.{Lengths}
 use Rattle.container.specs.Container.{Values, long, outer_tag, largest, Fits, Allowed}
 use Rattle.container.specs.Reading.{Parsed, values, fault, Part, values_of, alone, prepend, Element, whole, broken, element, tag_here, follow, parse, inner, outer, located, parsed}
 use Rattle.container.proofs.One.{element-within}

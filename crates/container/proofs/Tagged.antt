@@ -13,12 +13,12 @@ use Rattle.laws.proofs.Bases.{below-drop}
 use Rattle.kinds.specs.Tables.{Table, table}
 use Rattle.verdicts.specs.Verdicts.{outright}
 use Rattle.verdicts.proofs.Apart.{not-both, untagged}
-use Rattle.verdicts.specs.declared.Tag.TheVariants.{NoTag, Of}
 use Rattle.verdicts.specs.declared.Fault.{Fault}
 use Rattle.verdicts.specs.declared.Finding.{Finding}
 use Rattle.container.specs.Container.{tag_bytes, long, spelled}
 use Rattle.container.specs.InOrder.{IsTag, of_table, a_byte, at_end, at_element, First, Named, no_kind, no_date, too_large, at_outer_tag, at_outer_length, at_outer_end, in_element}
 use Rattle.container.proofs.Tags.{Tags, tags, plain-small, has-plain, no-tag}
+use Rattle.std.specs.Prelude.{Some, None}
 
 -- ---- a tag that stands at the front of some bytes
 
@@ -50,13 +50,13 @@ module _ (kind today : ℕ) (c p r : List ℕ) (i : drop 1 c ≡ p ++ r) {f : Fi
   here : drop f.place c ≡ drop front r
   here = ap (λ (k : ℕ). drop k c) w.place_is ∙ behind c p r i front
 
-  there : {t : ℕ} → f.tag ≡ Of t → (q : List ℕ) × IsTag (table kind) (drop front r) t q
+  there : {t : ℕ} → f.tag ≡ Some t → (q : List ℕ) × IsTag (table kind) (drop front r) t q
   there {t} e = elim w.wrong [
     | at_end x o m z ↦ absurd (not-both (sym z ∙ e))
     | at_element u q s v z ↦ let y : u ≡ t = (let z' = sym z ∙ e in cc) in (q, rw y at s)
   ]
 
-  tag-here : Bytes c → {t : ℕ} → f.tag ≡ Of t → (take (long t) (drop f.place c) ≡ tag_bytes t) × (t < 65536)
+  tag-here : Bytes c → {t : ℕ} → f.tag ≡ Some t → (take (long t) (drop f.place c) ≡ tag_bytes t) × (t < 65536)
   tag-here b {t} e =
       let (q, s) = there e in
       let y : Bytes (drop front r) = rw here at (below-drop 256 f.place c b) in (
@@ -64,7 +64,7 @@ module _ (kind today : ℕ) (c p r : List ℕ) (i : drop 1 c ≡ p ++ r) {f : Fi
         small (table kind) (tags kind) y s,
       )
 
-  none_here : 0 < length c → (f.tag ≡ NoTag) ↔ ((f.place ≡ 0) ⊎ (f.place ≡ length c))
+  none_here : 0 < length c → (f.tag ≡ None) ↔ ((f.place ≡ 0) ⊎ (f.place ≡ length c))
   none_here h =
       let k = length-take front r in
       let j = ap length w.written in
@@ -89,7 +89,7 @@ bytes-there (x ∷ c) e = omega arith
 
 module _ (kind today : ℕ) (c : List ℕ) (f : Finding) where
   -- the bytes at the place begin with the tag's bytes, of which there are one or two
-  pub at_place : Bytes c → Named kind today c f → (t : ℕ) → f.tag ≡ Of t → (take (long t) (drop f.place c) ≡ tag_bytes t) × (t < 65536)
+  pub at_place : Bytes c → Named kind today c f → (t : ℕ) → f.tag ≡ Some t → (take (long t) (drop f.place c) ≡ tag_bytes t) × (t < 65536)
   at_place b (no_kind h e) t g = absurd (untagged e g)
   at_place b (no_date k h e) t g = absurd (untagged e g)
   at_place b (too_large k d l e) t g = absurd (untagged e g)
@@ -99,13 +99,13 @@ module _ (kind today : ℕ) (c : List ℕ) (f : Finding) where
   at_place b (in_element k d l h p n r i m w) t g = tag-here kind today c p r i.1 w b g
 
   -- no tag exactly where the place is 0, or where there is nothing more
-  abbrev None : Type 0
-  None = (f.tag ≡ NoTag) ↔ ((f.place ≡ 0) ⊎ (f.place ≡ length c))
+  abbrev Tagless : Type 0
+  Tagless = (f.tag ≡ None) ↔ ((f.place ≡ 0) ⊎ (f.place ≡ length c))
 
-  whole : {g : Fault} → f ≡ outright g → None
+  whole : {g : Fault} → f ≡ outright g → Tagless
   whole e = (λ y. inl (ap (λ (x : Finding). x.place) e), λ y. ap (λ (x : Finding). x.tag) e)
 
-  pub none-when : Named kind today c f → (f.tag ≡ NoTag) ↔ ((f.place ≡ 0) ⊎ (f.place ≡ length c))
+  pub none-when : Named kind today c f → (f.tag ≡ None) ↔ ((f.place ≡ 0) ⊎ (f.place ≡ length c))
   none-when (no_kind h e) = whole e
   none-when (no_date k h e) = whole e
   none-when (too_large k d l e) = whole e

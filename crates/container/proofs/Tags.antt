@@ -17,7 +17,7 @@ use Rattle.kinds.proofs.Every.{of-every, of-every-kind}
 use Rattle.container.specs.Container.{tag_bytes, long, has}
 use Rattle.container.specs.Reading.{tag_here}
 use Rattle.container.specs.InOrder.{IsTag, of_table, a_byte}
-use Rattle.container.proofs.Rows.{Distinct}
+use Rattle.container.proofs.Walking.{Distinct}
 
 -- no table has a tag twice
 abbrev apart : Table → Bool

@@ -1,7 +1,6 @@
 -- One element, by the tests that the code makes: each way out of `element` has the map that the walk has there. Assumes nothing.
 use Prim.Native.Nat.{ℕ, suc, ◌+◌, ◌-◌, ◌≤◌, ◌<◌}
 use mathlib.Core.Path.{◌≡◌, refl, sym, ap, ◌∙◌}
-use mathlib.Core.Bool.{Bool}
 use mathlib.Core.List.{List, ◌∷◌}
 use native.Mathlib.Omega.{arith}
 use lib.ListN.{length, get_or, drop, set, length-append, length-drop, drop_of_length-le}
@@ -12,33 +11,33 @@ use Rattle.laws.proofs.Bases.{below-drop}
 use Rattle.laws.proofs.Turns.{from_one}
 use Rattle.lengths.proofs.Spellings.{spelt-some}
 use Rattle.kinds.specs.Tables.{table, row_of, last_row}
-use Rattle.kinds.specs.declared.ValueRule.{ValueRule}
-use Rattle.kinds.specs.declared.Row.TheVariants.{At, Missing}
+use Rattle.kinds.specs.declared.Row.{Row}
 use Rattle.kinds.proofs.Every.{row_number}
 use Rattle.verdicts.specs.Verdicts.{found}
 use Rattle.verdicts.specs.declared.Fault.{Fault}
 use Rattle.verdicts.specs.declared.Fault.TheVariants.{UnknownTag, TagOrder, MissingRow}
-use Rattle.verdicts.specs.declared.Tag.TheVariants.{NoTag, Of}
-use Rattle.verdicts.specs.declared.Outcome.TheVariants.{Fine}
 use Rattle.container.specs.Container.{long}
 use Rattle.container.specs.Reading.{Parsed, Part, Element, whole, broken, element, tag_here, follow, parse}
-use Rattle.container.specs.Map.{lost, noted, map_from, Steps, value_at, lengths_of}
-use Rattle.container.specs.declared.Map.{Map}
-use Rattle.container.specs.declared.Value.TheVariants.{Bad, Whole}
-use Rattle.container.specs.declared.Step.TheVariants.{Next}
+use Rattle.container.specs.Map.{noted, map_from, Steps, value_at}
+use Rattle.container.specs.declared.rows.Span.{Span}
 use Rattle.container.proofs.One.{element-is}
-use Rattle.container.proofs.Rows.{past-part, by_row, by_row_lem, by_last, by_last_lem}
+use Rattle.container.proofs.Walking.{past-part, by_row, by_row_lem, by_last, by_last_lem}
 use Rattle.container.proofs.Tags.{distinct}
+use Rattle.std.specs.Prelude.{Some, None, Result, Ok, Err}
+use Rattle.std.specs.declared.ops.Range.{Range}
+use Rattle.verdicts.specs.declared.Finding.{Finding}
 
 -- the code's answer, taken back
-broken-value : (at : ℕ) (x : Element) {f : Fault} → Bad f ≡ value_at at x → x ≡ broken f
+broken-value : (at : ℕ) (x : Element) {f : Fault} → value_at at x ≡ Err f → x ≡ broken f
 unfolding value_at
 broken-value at (whole w v) e = let z : ◌≡◌ {A = ℕ} 0 1 = cc in absurd (omega arith)
 broken-value at (broken f) e = cc
 
-whole-value : (at : ℕ) (x : Element) {start end : ℕ} → Whole start end ≡ value_at at x → (w : ℕ) × (v : List ℕ) × (x ≡ whole w v) × (start ≡ at + w) × (end ≡ at + w + length v)
+whole-value : (at : ℕ) (x : Element) {r : Range ℕ} → value_at at x ≡ Ok r → (w : ℕ) × (v : List ℕ) × (x ≡ whole w v) × (r.start ≡ at + w) × (r.end ≡ at + w + length v)
 unfolding value_at
-whole-value at (whole w v) e = (w, v, refl, cc, cc)
+whole-value at (whole w v) {r} e =
+    let q : record { start = at + w; end = at + w + length v } ≡ r = cc in
+    (w, v, refl, sym (ap (λ (r : Range ℕ). r.start) q), sym (ap (λ (r : Range ℕ). r.end) q))
 whole-value at (broken f) e = let z : ◌≡◌ {A = ℕ} 0 1 = cc in absurd (omega arith)
 
 module _ (kind today : ℕ) (c : List ℕ) (at done : ℕ) (h : at < length c) where
@@ -52,27 +51,27 @@ module _ (kind today : ℕ) (c : List ℕ) (at done : ℕ) (h : at < length c) w
   tag = tag_here (table kind) byte rest
 
   -- what the step leaves as it is, over whatever is noted
-  abbrev Same : (List ℕ → List ℕ → Map) → Type 0
-  Same m = (starts ends : List ℕ) → m starts ends ≡ map_from kind today c at done starts ends
+  abbrev Same : (List Span → Result (List Span) Finding) → Type 0
+  Same m = (rows : List Span) → m rows ≡ map_from kind today c at done rows
 
-  by-tag : Same (λ starts ends. by_row today (table kind) at byte rest starts ends done (row_of kind tag))
+  by-tag : Same (λ rows. by_row today (table kind) at byte rest rows done (row_of kind tag))
   unfolding map_from
-  by-tag starts ends = rw (from_one c at h) (by_row_lem today (table kind) at byte rest starts ends done (distinct kind))
+  by-tag rows = rw (from_one c at h) (by_row_lem today (table kind) at byte rest rows done (distinct kind))
 
-  pub unknown : Missing ≡ row_of kind tag → Same (λ starts ends. lost (found UnknownTag at (Of tag)))
-  unknown e starts ends = ap (by_row today (table kind) at byte rest starts ends done) e ∙ by-tag starts ends
+  pub unknown : row_of kind tag ≡ None → Same (λ rows. Err (found UnknownTag at (Some tag)))
+  unknown e rows = ap (by_row today (table kind) at byte rest rows done) (sym e) ∙ by-tag rows
 
-  module _ {i from least most : ℕ} {empty : Bool} {rule : ValueRule} (e : At i from least most empty rule ≡ row_of kind tag) where
-    row : Same (λ starts ends. by_row today (table kind) at byte rest starts ends done (At i from least most empty rule))
-    row starts ends = ap (by_row today (table kind) at byte rest starts ends done) e ∙ by-tag starts ends
+  module _ {r : Row} (e : row_of kind tag ≡ Some r) where
+    by-its-row : Same (λ rows. by_row today (table kind) at byte rest rows done (Some r))
+    by-its-row rows = ap (by_row today (table kind) at byte rest rows done) (sym e) ∙ by-tag rows
 
-    pub earlier : i ≤ done → Same (λ starts ends. lost (found TagOrder at (Of tag)))
-    earlier l starts ends = simp (le-leb _ _ l) at (row starts ends)
+    pub earlier : r.index ≤ done → Same (λ rows. Err (found TagOrder at (Some tag)))
+    earlier l rows = simp (le-leb _ _ l) at (by-its-row rows)
 
-    pub missed : done < i → done < from → Same (λ starts ends. lost (found MissingRow at (Of tag)))
-    missed l m starts ends = simp (lt-leb _ _ l, lt-ltb _ _ m) at (row starts ends)
+    pub missed : done < r.index → done < r.after → Same (λ rows. Err (found MissingRow at (Some tag)))
+    missed l m rows = simp (lt-leb _ _ l, lt-ltb _ _ m) at (by-its-row rows)
 
-    module _ (l : done < i) (m : from ≤ done) {begin : ℕ} (s : begin ≡ at + long tag) where
+    module _ (l : done < r.index) (m : r.after ≤ done) {begin : ℕ} (s : begin ≡ at + long tag) where
       -- the bytes after the tag
       left : (k : ℕ) → drop k (byte ∷ rest) ≡ drop (at + k) c
       left k = ap (drop k) (sym (from_one c at h)) ∙ drop-drop k at c
@@ -81,49 +80,49 @@ module _ (kind today : ℕ) (c : List ℕ) (at done : ℕ) (h : at < length c) w
       body = left (long tag) ∙ ap (λ (k : ℕ). drop k c) (sym s)
 
       abbrev after : ℕ → Parsed Part
-      after n = parse today (table kind) (drop i (table kind)) (at + long tag + n) (drop (long tag + n) (byte ∷ rest))
+      after n = parse today (table kind) (drop r.index (table kind)) (at + long tag + n) (drop (long tag + n) (byte ∷ rest))
 
-      here : Same (λ starts ends. noted (i - 1) starts ends (follow at tag (element (lengths_of least most empty) rule today (drop begin c)) after))
-      here starts ends =
-          ap (λ (x : List ℕ). noted (i - 1) starts ends (follow at tag (element (lengths_of least most empty) rule today x) after)) (sym body)
-          ∙ simp (lt-leb _ _ l, le-ltb _ _ m) at (row starts ends)
+      here : Same (λ rows. noted (r.index - 1) rows (follow at tag (element r.lengths r.rule today (drop begin c)) after))
+      here rows =
+          ap (λ (x : List ℕ). noted (r.index - 1) rows (follow at tag (element r.lengths r.rule today x) after)) (sym body)
+          ∙ simp (lt-leb _ _ l, le-ltb _ _ m) at (by-its-row rows)
 
-      pub breaks : {f : Fault} → Bad f ≡ value_at begin (element (lengths_of least most empty) rule today (drop begin c)) → Same (λ starts ends. lost (found f at (Of tag)))
+      pub breaks : {f : Fault} → value_at begin (element r.lengths r.rule today (drop begin c)) ≡ Err f → Same (λ rows. Err (found f at (Some tag)))
       unfolding noted
-      breaks f starts ends = rw (broken-value begin (element (lengths_of least most empty) rule today (drop begin c)) f) at (here starts ends)
+      breaks f rows = rw (broken-value begin (element r.lengths r.rule today (drop begin c)) f) at (here rows)
 
-      module _ (w : ℕ) (v : List ℕ) (is : element (lengths_of least most empty) rule today (drop begin c) ≡ whole w v) {start end : ℕ} (y : start ≡ begin + w) (z : end ≡ begin + w + length v) where
-        passes : Same (λ starts ends. map_from kind today c end i (set starts (i - 1) start) (set ends (i - 1) end))
+      module _ (w : ℕ) (v : List ℕ) (is : element r.lengths r.rule today (drop begin c) ≡ whole w v) {start end : ℕ} (y : start ≡ begin + w) (z : end ≡ begin + w + length v) where
+        passes : Same (λ rows. map_from kind today c end r.index (set rows (r.index - 1) (record { from = start; to = end })))
         unfolding map_from
-        passes starts ends =
+        passes rows =
             let o : at + long tag + w ≡ start = omega (arith, s) in
             let p : start + length v ≡ end = omega arith in
             let q : at + long tag + (w + length v) ≡ end = omega (arith, s) in
             let u : at + (long tag + (w + length v)) ≡ end = omega (arith, s) in
-            let r : drop (long tag + (w + length v)) (byte ∷ rest) ≡ drop end c = left (long tag + (w + length v)) ∙ ap (λ (k : ℕ). drop k c) u in
-            let n : suc (i - 1) ≡ i = omega arith in
-            sym (past-part (i - 1) starts ends (record { offset = at + long tag + w; bytes = v }) (after (w + length v)) ∙ rw (n, o, p, q, r)) ∙ rw is at (here starts ends)
+            let d : drop (long tag + (w + length v)) (byte ∷ rest) ≡ drop end c = left (long tag + (w + length v)) ∙ ap (λ (k : ℕ). drop k c) u in
+            let n : suc (r.index - 1) ≡ r.index = omega arith in
+            sym (past-part (r.index - 1) rows (record { offset = at + long tag + w; bytes = v }) (after (w + length v)) ∙ rw (n, o, p, q, d)) ∙ rw is at (here rows)
 
         moves : Bytes c → (at < start) × (start ≤ end) × (end ≤ length c)
         moves b =
-            let g = element-is (lengths_of least most empty) rule today (drop begin c) (below-drop 256 begin c b) w v is in
+            let g = element-is r.lengths r.rule today (drop begin c) (below-drop 256 begin c b) w v is in
             let k = simp length-append at (ap length g.bytes) in
             omega (arith, k, g.width, length-drop begin c, spelt-some g.form (length v) g.spelt, length-drop (w + length v) (drop begin c))
 
-      pub goes_on : {start end : ℕ} → Bytes c → Whole start end ≡ value_at begin (element (lengths_of least most empty) rule today (drop begin c)) → Steps kind today c at done (Next start end i)
-      goes_on {start} {end} b f =
-          let (w, v, is, y, z) = whole-value begin (element (lengths_of least most empty) rule today (drop begin c)) f in
-          let (p, q, r) = moves w v is y z b in
-          (passes w v is y z, (p, q, r, omega arith, omega (arith, row_number kind tag (sym e))))
+      pub goes_on : {value : Range ℕ} → Bytes c → value_at begin (element r.lengths r.rule today (drop begin c)) ≡ Ok value → Steps kind today c at done (Ok (record { row = r.index; value = value }))
+      goes_on {value} b f =
+          let (w, v, is, y, z) = whole-value begin (element r.lengths r.rule today (drop begin c)) f in
+          let (p, q, n) = moves w v is y z b in
+          (passes w v is y z, (p, q, n, omega arith, omega (arith, row_number kind tag e)))
 
 -- at the end of the bytes
-module _ (kind today : ℕ) (c : List ℕ) (at done : ℕ) (starts ends : List ℕ) (h : length c ≤ at) {last : ℕ} (e : last ≡ last_row kind) where
-  ended : by_last today (table kind) at done starts ends last ≡ map_from kind today c at done starts ends
+module _ (kind today : ℕ) (c : List ℕ) (at done : ℕ) (rows : List Span) (h : length c ≤ at) {last : ℕ} (e : last ≡ last_row kind) where
+  ended : by_last today (table kind) at done rows last ≡ map_from kind today c at done rows
   unfolding map_from
-  ended = rw (e, drop_of_length-le c h) (by_last_lem today (table kind) at done starts ends)
+  ended = rw (e, drop_of_length-le c h) (by_last_lem today (table kind) at done rows)
 
-  pub cut_off : done < last → lost (found MissingRow at NoTag) ≡ map_from kind today c at done starts ends
+  pub cut_off : done < last → Err (found MissingRow at None) ≡ map_from kind today c at done rows
   cut_off l = simp (lt-ltb _ _ l) at ended
 
-  pub complete : last ≤ done → record { outcome = Fine; from = starts; to = ends } ≡ map_from kind today c at done starts ends
+  pub complete : last ≤ done → Ok rows ≡ map_from kind today c at done rows
   complete l = simp (le-ltb _ _ l) at ended

@@ -4,16 +4,16 @@ use Rattle.std.specs.Prelude.{ℕ, ◌+◌, ◌<◌, ◌≤◌, ◌⊎◌, ◌�
 use Rattle.std.proofs.Math.Option.{none, some}
 use Rattle.dates.specs.Date.{IsDate}
 use Rattle.lengths.specs.Length.{Spells}
-use Rattle.kinds.specs.Tables.{Lengths, Permitted, Entry, Table, table, IsKind}
+use Rattle.kinds.specs.Tables.{Permitted, Entry, Table, table, IsKind}
+use Rattle.kinds.specs.declared.Lengths.{Lengths}
 use Rattle.kinds.specs.declared.ValueRule.{ValueRule}
 use Rattle.rules.specs.Rules.{Violates}
-use Rattle.verdicts.specs.Verdicts.{outright}
-use Rattle.verdicts.specs.declared.Tag.{Tag}
-use Rattle.verdicts.specs.declared.Tag.TheVariants.{NoTag, Of}
+use Rattle.verdicts.specs.Verdicts.{Tag, outright}
 use Rattle.verdicts.specs.declared.Finding.{Finding}
 use Rattle.verdicts.specs.declared.Fault.{Fault}
 use Rattle.verdicts.specs.declared.Fault.TheVariants.{UnknownKind, NoDate, LargeContainer, OuterTag, LengthForm, Overrun, UnknownTag, TagOrder, MissingRow, ElementLength}
 use Rattle.container.specs.Container.{Values, Spellings, tag_bytes, has, spelled, outer_tag, Allowed, Formed, largest}
+use Rattle.std.specs.Prelude.{Some, None}
 
 -- ---- an element
 
@@ -55,8 +55,8 @@ pub data AtFault (today : ℕ) (all rest : Table) (t : ℕ) (s : List ℕ) (f : 
 -- "`--` .. for a row missing at the end"; or the element that they begin with is at fault, and the tag is its own: not that of a row that is missing, nor
 -- that of the element before
 pub data Wrong (today : ℕ) (all rest : Table) (s : List ℕ) (f : Fault) (tag : Tag) : Type 0 where
-  at_end : s ≡ [] → Owed rest → f ≡ MissingRow → tag ≡ NoTag → Wrong today all rest s f tag
-  at_element : (t : ℕ) (r : List ℕ) → IsTag all s t r → AtFault today all rest t r f → tag ≡ Of t → Wrong today all rest s f tag
+  at_end : s ≡ [] → Owed rest → f ≡ MissingRow → tag ≡ None → Wrong today all rest s f tag
+  at_element : (t : ℕ) (r : List ℕ) → IsTag all s t r → AtFault today all rest t r f → tag ≡ Some t → Wrong today all rest s f tag
 
 -- the last of some values is there
 abbrev pub LastThere : Values → Type 0

@@ -4,21 +4,18 @@
 use Rattle.std.specs.Prelude.{ℕ, ◌+◌, cond, ◌&&◌, List, [], ◌∷◌, length, take, drop, ltb, leb, eqb}
 use Rattle.std.proofs.Math.Option.{Option, none, some}
 use Rattle.lengths.specs.Length.{Spelt, read_length}
-use Rattle.kinds.specs.Tables.{Lengths, Table, table, permitted, is_kind}
+use Rattle.kinds.specs.Tables.{Table, table, permitted, is_kind}
+use Rattle.kinds.specs.declared.Lengths.{Lengths}
 use Rattle.kinds.specs.declared.ValueRule.{ValueRule}
 use Rattle.dates.specs.Date.{is_date}
 use Rattle.rules.specs.Rules.{rule_of}
-use Rattle.verdicts.specs.Verdicts.{outright, found, verdict_of}
+use Rattle.verdicts.specs.Verdicts.{Outcome, Ruling, outright, found, verdict_of}
 use Rattle.verdicts.specs.declared.Fault.{Fault}
 use Rattle.verdicts.specs.declared.Fault.TheVariants.{UnknownKind, NoDate, LargeContainer, OuterTag, LengthForm, Overrun, UnknownTag, TagOrder, MissingRow, ElementLength}
-use Rattle.verdicts.specs.declared.Tag.TheVariants.{NoTag, Of}
 use Rattle.verdicts.specs.declared.Finding.{Finding}
-use Rattle.verdicts.specs.declared.Ruling.{Ruling}
-use Rattle.verdicts.specs.declared.Ruling.TheVariants.{Kept, Breaks}
-use Rattle.verdicts.specs.declared.Outcome.{Outcome}
-use Rattle.verdicts.specs.declared.Outcome.TheVariants.{Fine, Broken}
 use Rattle.verdicts.specs.declared.Verdict.{Verdict}
 use Rattle.container.specs.Container.{Values, long, has, outer_tag, largest}
+use Rattle.std.specs.Prelude.{Some, None, Ok, Err}
 
 -- what is read: something for each row that is there, or the first finding
 pub data Parsed (A : Type 0) : Type 0 where
@@ -52,8 +49,8 @@ pub data Element : Type 0 where
   broken : Fault → Element
 
 abbrev pub ended : ℕ → List ℕ → Ruling → Element
-ended width v Kept = whole width v
-ended width v (Breaks f) = broken f
+ended width v (Ok _) = whole width v
+ended width v (Err f) = broken f
 
 module _ (l : Lengths) (rule : ValueRule) (today : ℕ) where
   abbrev pub sized : ℕ → List ℕ → Element
@@ -83,18 +80,18 @@ misplaced all rest t = cond (has t rest) MissingRow (cond (has t all) TagOrder U
 -- an element that stands at `at` and has the tag t, and what follows its length and value
 abbrev pub follow : ℕ → ℕ → Element → (ℕ → Parsed Part) → Parsed Part
 follow at t (whole width v) k = prepend (some (record { offset = at + long t + width; bytes = v })) (k (width + length v))
-follow at t (broken f) k = fault (found f at (Of t))
+follow at t (broken f) k = fault (found f at (Some t))
 
 -- the bytes s, which start at the offset `at`, as elements of the rows to come
 abbrev pub parse : ℕ → Table → Table → ℕ → List ℕ → Parsed Part
 parse today all [] at [] = values []
-parse today all [] at (b ∷ s) = fault (found (misplaced all [] (tag_here all b s)) at (Of (tag_here all b s)))
-parse today all (r ∷ rs) at [] = cond r.optional (prepend none (parse today all rs at [])) (fault (found MissingRow at NoTag))
+parse today all [] at (b ∷ s) = fault (found (misplaced all [] (tag_here all b s)) at (Some (tag_here all b s)))
+parse today all (r ∷ rs) at [] = cond r.optional (prepend none (parse today all rs at [])) (fault (found MissingRow at None))
 parse today all (r ∷ rs) at (b ∷ s) =
     cond (eqb (tag_here all b s) r.tag)
     (follow at r.tag (element r.lengths r.rule today (drop (long r.tag) (b ∷ s)))
     (λ n. parse today all rs (at + long r.tag + n) (drop (long r.tag + n) (b ∷ s))))
-    (cond r.optional (prepend none (parse today all rs at (b ∷ s))) (fault (found (misplaced all (r ∷ rs) (tag_here all b s)) at (Of (tag_here all b s)))))
+    (cond r.optional (prepend none (parse today all rs at (b ∷ s))) (fault (found (misplaced all (r ∷ rs) (tag_here all b s)) at (Some (tag_here all b s)))))
 
 -- ---- the whole: "outer 10, 11, 12 (place 0)", which have no tag
 
@@ -123,8 +120,8 @@ parsed kind today c = alone (located kind today c)
 -- ---- the verdict
 
 abbrev pub outcome_of : {A : Type 0} → Parsed A → Outcome
-outcome_of (values vs) = Fine
-outcome_of (fault f) = Broken f
+outcome_of (values vs) = Ok tt
+outcome_of (fault f) = Err f
 
 unfoldable pub outcome : ℕ → ℕ → List ℕ → Outcome
 outcome kind today c = outcome_of (parsed kind today c)

@@ -16,7 +16,6 @@ use Rattle.laws.proofs.Formats.{kept_if}
 use Rattle.laws.proofs.Layouts.{part-long, part-part, same-part}
 use Rattle.verdicts.specs.Verdicts.{found}
 use Rattle.verdicts.specs.declared.Fault.TheVariants.{BadHeader, BadFascn}
-use Rattle.verdicts.specs.declared.Tag.TheVariants.{Of}
 use Rattle.kinds.specs.Tables.{table}
 use Rattle.kinds.specs.declared.ValueRule.{ValueRule}
 use Rattle.kinds.specs.declared.ValueRule.TheVariants.{Fascn, Fingers, Face, Iris}
@@ -37,6 +36,7 @@ use Rattle.signer.proofs.Elements.{within}
 use Rattle.damage.specs.Damage.{six, Damaged, DamagedIn}
 use Rattle.damage.proofs.Refused.{damage-refused}
 use Rattle.damage.proofs.Spoiled.{Ruled, kept_rule, spoiled}
+use Rattle.std.specs.Prelude.{Some}
 
 -- ---- the damaged FASC-N in the place of the other
 
@@ -57,7 +57,7 @@ chuid-ruled : Ruled 0x30 Fascn (table 2)
 chuid-ruled = (tt, (refl, (tt, (tt, (tt, (tt, (tt, (tt, (tt, tt)))))))))
 
 pub chuid-damaged : {today : ℕ} {c d f : List ℕ} {at : ℕ} → Bytes c → (x : Element 2 today c 0x30 f at) → DamagedIn c d f at
-    → Named 2 today d (found BadFascn (element_place 2 x.values x.conforms.forms x.row) (Of 0x30))
+    → Named 2 today d (found BadFascn (element_place 2 x.values x.conforms.forms x.row) (Some 0x30))
 chuid-damaged {d = d} {f = f} {at = at} b x g =
     let k : IsFascn f = kept_rule b x Fascn chuid-ruled in
     spoiled b x Fascn chuid-ruled d g.as_long g.same_before BadFascn
@@ -86,7 +86,7 @@ module _ (v w : List ℕ) (l : length w ≡ length v) (e : take 59 w ≡ take 59
 -- of any kind whose row BC has the rule of this format
 module _ {kind today : ℕ} {c d v : List ℕ} {start : ℕ} (b : Bytes c) (g : Bytes d) (x : Element kind today c 0xBC v start) (h : DamagedIn c d (part v 59 25) (start + 59)) where
   abbrev Refused : Type 0
-  Refused = Named kind today d (found BadFascn (element_place kind x.values x.conforms.forms x.row) (Of 0xBC))
+  Refused = Named kind today d (found BadFascn (element_place kind x.values x.conforms.forms x.row) (Some 0xBC))
 
   in-format : (rule : ValueRule) (m : Biometric) → Ruled 0xBC rule (table kind) → (Keeps rule today v → header.IsBiometric m v)
       → ((w : List ℕ) → FirstBroken (header.header m (length w)) w BadFascn → Violates rule today w BadFascn) → Refused

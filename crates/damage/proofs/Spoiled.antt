@@ -2,7 +2,7 @@
 -- element's place and with its tag, whatever follows. Once over the kind, the row and the rule. Assumes nothing.
 use Prim.Native.Nat.{ℕ, zero, suc, ◌+◌, ◌≤◌}
 use mathlib.Core.Path.{◌≡◌, refl, sym, ap, subst, ◌∙◌}
-use mathlib.Core.Bool.{Bool, true, cond}
+use mathlib.Core.Bool.{true, cond}
 use mathlib.Core.Option.{none, some}
 use mathlib.Core.List.{List, [], ◌∷◌, ◌++◌, append_assoc}
 use native.Mathlib.Omega.{arith}
@@ -16,18 +16,18 @@ use Rattle.laws.proofs.Cases.{no-some, none-at}
 use Rattle.laws.proofs.Layouts.{part-long}
 use Rattle.verdicts.specs.Verdicts.{found}
 use Rattle.verdicts.specs.declared.Fault.{Fault}
-use Rattle.verdicts.specs.declared.Tag.TheVariants.{Of}
 use Rattle.lengths.specs.Length.{Spells}
 use Rattle.kinds.specs.Tables.{Entry, Table, table, first}
 use Rattle.kinds.specs.declared.ValueRule.{ValueRule}
-use Rattle.kinds.specs.declared.Slot.TheVariants.{Holds}
 use Rattle.rules.specs.Rules.{Keeps, Violates}
 use Rattle.container.specs.Container.{Values, Spellings, tag_bytes, has, spelled, outer_tag, Fits, Allowed, Formed, Conforms, largest}
 use Rattle.container.specs.InOrder.{of_table, bad_value, Owed, in_row, Wrong, at_element, LastThere, Named, in_element}
 use Rattle.container.proofs.Named.{later, has-mid}
 use Rattle.views.specs.Views.{element_place}
+use Rattle.views.proofs.Placing.{same_tag}
 use Rattle.signer.specs.Signer.{Element}
 use Rattle.signer.proofs.Elements.{within}
+use Rattle.std.specs.Prelude.{Some}
 
 -- ---- up to a row that has a value
 
@@ -208,12 +208,12 @@ module _ {kind today : ℕ} {c : List ℕ} {vs : Values} (h : Conforms kind toda
     in_table = rw (rows_are, ← append_assoc k.rows k.passed (k.here.row ∷ k.here.after)) (has-mid (k.rows ++ k.passed) k.here.row k.here.after)
 
     -- the value is at fault
-    wrong : Wrong today (table kind) (k.passed ++ (k.here.row ∷ k.here.after)) (tag ++ (form ++ (w ++ u))) f (Of k.here.row.tag)
+    wrong : Wrong today (table kind) (k.passed ++ (k.here.row ∷ k.here.after)) (tag ++ (form ++ (w ++ u))) f (Some k.here.row.tag)
     wrong =
         at_element k.here.row.tag (form ++ (w ++ u)) (of_table in_table refl)
         (in_row k.passed k.here.row k.here.after refl refl k.none-owed (bad_value form w u (rw l k.here.spells, refl) (rw l k.here.fits.long) b)) refl
 
-    named : Named kind today (head ++ (w ++ u)) (found f (1 + length outer + length elements) (Of k.here.row.tag))
+    named : Named kind today (head ++ (w ++ u)) (found f (1 + length outer + length elements) (Some k.here.row.tag))
     named =
         rw (opened (w ++ u))
         (in_element h.kind_is h.date_is same_size refl outer _ (body (w ++ u)) (h.outer_formed, refl) same_body
@@ -232,9 +232,6 @@ module _ {kind today : ℕ} {c : List ℕ} {vs : Values} (h : Conforms kind toda
         }))
 
 -- ---- the theorem
-
-same_tag : {t u : ℕ} {o p : Bool} → Holds t o ≡ Holds u p → t ≡ u
-same_tag e = cc
 
 module _ {kind today : ℕ} {c : List ℕ} {t : ℕ} {v : List ℕ} {at : ℕ} (b : Bytes c) (x : Element kind today c t v at) (rule : ValueRule) (ruled : Ruled t rule (table kind)) where
   abbrev k : Reached today (table kind) x.values x.conforms.forms.rows x.row v
@@ -258,7 +255,7 @@ module _ {kind today : ℕ} {c : List ℕ} {t : ℕ} {v : List ℕ} {at : ℕ} (
   long-before = rw (x.place_is, k.before-is, ← tag_is) (long-head x.conforms x.row k)
 
   pub spoiled : (d : List ℕ) → length d ≡ length c → take at d ≡ take at c → (f : Fault) → Violates rule today (part d at (length v)) f
-      → Named kind today d (found f (element_place kind x.values x.conforms.forms x.row) (Of t))
+      → Named kind today d (found f (element_place kind x.values x.conforms.forms x.row) (Some t))
   unfolding before
   spoiled d l s f z =
       let w : List ℕ = part d at (length v) in
@@ -270,5 +267,5 @@ module _ {kind today : ℕ} {c : List ℕ} {t : ℕ} {v : List ℕ} {at : ℕ} (
       let m : length w ≡ length v = part-long d at (length v) (omega arith) in
       let n : length (w ++ u) ≡ length (v ++ k.behind) =
       omega (arith, l, ap length y, length-drop at d, ap length q, length-append before (v ++ k.behind), long-before) in
-      subst (λ (g : List ℕ). Named kind today g (found f (element_place kind x.values x.conforms.forms x.row) (Of t))) (sym e)
+      subst (λ (g : List ℕ). Named kind today g (found f (element_place kind x.values x.conforms.forms x.row) (Some t))) (sym e)
       (rw (k.before-is, ← tag_is) (named x.conforms x.row k w u m n f (rw rule-is z)))

@@ -59,9 +59,13 @@ no-month y (suc m) h =
     sym (get_or-eq_default (month_lengths y) 0 past)
 
 -- February has 28 days, in a leap year 29
-pub february : (y m : ℕ) → (b : Bool) → m ≡ 2 → leap y ≡ b → cond b 29 28 ≡ days_in y m
+pub leap-february : (y m : ℕ) → m ≡ 2 → leap y ≡ true → 29 ≡ days_in y m
 unfolding days_in
-february y m b h e = rw (h, e)
+leap-february y m h e = rw (h, e)
+
+pub february : (y m : ℕ) → m ≡ 2 → leap y ≡ false → 28 ≡ days_in y m
+unfolding days_in
+february y m h e = rw (h, e)
 
 -- the months alternate between 31 days and 30: what the month has that comes so many after the first
 abbrev pub alternating : ℕ → ℕ
@@ -83,6 +87,8 @@ unfolding all_below days_in
 from-august y m h k =
     let e : 8 + (m - 8) ≡ m = omega arith in
     agree alternating (λ j. days_in y (8 + j)) 5 refl (m - 8) (omega arith) ∙ ap (days_in y) e
+
+pub ruleset days = (no-month, leap-february, february, from-january, from-august)
 
 -- ---- what `exists` answers
 
@@ -118,3 +124,5 @@ its-month-too y m d = same_test _ _ (sound, complete) (exists-exact y m d)
 
     complete : Exists y m d → one-of-its-days y m d ≡ true
     complete x = rw (le-leb _ _ x.first_year, le-leb _ _ x.last_year, le-leb _ _ x.first_day, le-leb _ _ x.last_day)
+
+pub ruleset existence = (its-month-too)

@@ -14,7 +14,7 @@ use Rattle.laws.specs.Bytes.{Below}
 use Rattle.laws.specs.Tests.{each}
 use Rattle.laws.proofs.Cases.{and-true, all_true, which}
 use Rattle.laws.proofs.Bases.{length_digits, below-digits, digits_append, value-digits, digits-read}
-use Rattle.dates.specs.declared.Date.TheVariants.{Is, Not}
+use Rattle.std.specs.Prelude.{Option, Some, None}
 use Rattle.dates.specs.Calendar.{Exists}
 use Rattle.dates.specs.Date.{date_number, IsDate, is_date, date_text, IsTextOf, IsTextDate, is_digit, text_number, date_of}
 use Rattle.dates.proofs.Calendars.{exists-exact, days-most}
@@ -110,22 +110,22 @@ reads_so s l g (y, m, d, x, e) =
     let k = small x in
     (y, m, d, x, is-text s l g ∙ rw (e, digits-date y m d k.0 k.1), e)
 
-told : (b : Bool) (m n : ℕ) → cond b (Is m) Not ≡ Is n → (b ≡ true) × (n ≡ m)
+told : (b : Bool) (m n : ℕ) → cond b (Some m) None ≡ Some n → (b ≡ true) × (n ≡ m)
 told true m n e = (refl, cc)
-told false m n e = let z : ◌≡◌ {A = ℕ} 0 1 = cc in absurd (omega arith)
+told false m n e = cc
 
 -- these bytes are read as the date n exactly where they are its text
-pub text-exact : (s : List ℕ) (n : ℕ) → (date_of s ≡ Is n) ↔ IsTextOf s n
+pub text-exact : (s : List ℕ) (n : ℕ) → (date_of s ≡ Some n) ↔ IsTextOf s n
 unfolding date_of
 text-exact s n = (sound, complete)
   where
-    sound : date_of s ≡ Is n → IsTextOf s n
+    sound : date_of s ≡ Some n → IsTextOf s n
     sound h =
         let t = told (eqb (length s) 8 && each is_digit s && is_date (text_number s)) (text_number s) n h in
         let p = all_true (eqb (length s) 8 ∷ each is_digit s ∷ is_date (text_number s) ∷ []) t.0 in
         rw t.1 (reads_so s (eqb-true _ _ (p 0)) (p 1) ((date-exact (text_number s)).0 (p 2)))
 
-    complete : IsTextOf s n → date_of s ≡ Is n
+    complete : IsTextOf s n → date_of s ≡ Some n
     complete r =
         let q = text_of s n r in
         let (l, g, v) = text_is s n q.0 q.1 in
@@ -133,14 +133,14 @@ text-exact s n = (sound, complete)
         rw (eq-eqb _ _ l, g, v, (date-exact n).1 (y, m, d, x, f))
 
 -- they are no date exactly where they are the text of none
-pub text-not : (s : List ℕ) → (date_of s ≡ Not) ↔ (IsTextDate s → ⊥)
+pub text-not : (s : List ℕ) → (date_of s ≡ None) ↔ (IsTextDate s → ⊥)
 unfolding date_of
 text-not s = (sound, complete)
   where
-    sound : date_of s ≡ Not → IsTextDate s → ⊥
-    sound h (n, r) = let e : date_of s ≡ Is n = (text-exact s n).1 r in let z : ◌≡◌ {A = ℕ} 0 1 = cc in omega arith
+    sound : date_of s ≡ None → IsTextDate s → ⊥
+    sound h (n, r) = let e : date_of s ≡ Some n = (text-exact s n).1 r in cc
 
-    complete : (IsTextDate s → ⊥) → date_of s ≡ Not
+    complete : (IsTextDate s → ⊥) → date_of s ≡ None
     complete h =
         elim (which (eqb (length s) 8 && each is_digit s && is_date (text_number s))) [
           | inl q ↦ absurd (h (text_number s, (text-exact s (text_number s)).0 (rw q)))
@@ -159,8 +159,8 @@ eight-digits s n r = (text_of s n r).1
 pub text-number : (s : List ℕ) (n : ℕ) → IsTextOf s n → text_number s ≡ n
 unfolding date_of
 text-number s n r =
-    let e : date_of s ≡ Is n = (text-exact s n).1 r in
+    let e : date_of s ≡ Some n = (text-exact s n).1 r in
     elim (which (eqb (length s) 8 && each is_digit s && is_date (text_number s))) [
-      | inl q ↦ let f : Is (text_number s) ≡ Is n = rw q at e in cc
-      | inr q ↦ let f : Not ≡ Is n = rw q at e in let z : ◌≡◌ {A = ℕ} 0 1 = cc in absurd (omega arith)
+      | inl q ↦ let f : Some (text_number s) ≡ Some n = rw q at e in cc
+      | inr q ↦ let f : ◌≡◌ {A = Option ℕ} None (Some n) = rw q at e in cc
     ]

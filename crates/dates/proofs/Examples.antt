@@ -2,7 +2,7 @@
 use mathlib.Core.Path.{◌≡◌, refl}
 use mathlib.Core.Bool.{true, false}
 use mathlib.Core.List.{[], ◌∷◌}
-use Rattle.dates.specs.declared.Date.TheVariants.{Is, Not}
+use Rattle.std.specs.Prelude.{Some, None}
 use Rattle.dates.specs.Calendar.{days_in, exists}
 use Rattle.dates.specs.Date.{is_date, date_of, in_window}
 use Rattle.dates.specs.Moment.{is_moment}
@@ -17,11 +17,11 @@ unfolding is_date exists days_in
 p10 = refl
 
 -- the same as text
-pub p9-text : date_of (0x32 ∷ 0x30 ∷ 0x30 ∷ 0x30 ∷ 0x30 ∷ 0x32 ∷ 0x32 ∷ 0x39 ∷ []) ≡ Is 20000229
+pub p9-text : date_of (0x32 ∷ 0x30 ∷ 0x30 ∷ 0x30 ∷ 0x30 ∷ 0x32 ∷ 0x32 ∷ 0x39 ∷ []) ≡ Some 20000229
 unfolding date_of is_date exists days_in
 p9-text = refl
 
-pub p10-text : date_of (0x32 ∷ 0x31 ∷ 0x30 ∷ 0x30 ∷ 0x30 ∷ 0x32 ∷ 0x32 ∷ 0x39 ∷ []) ≡ Not
+pub p10-text : date_of (0x32 ∷ 0x31 ∷ 0x30 ∷ 0x30 ∷ 0x30 ∷ 0x32 ∷ 0x32 ∷ 0x39 ∷ []) ≡ None
 unfolding date_of is_date exists days_in
 p10-text = refl
 
@@ -65,11 +65,11 @@ unfolding is_date exists days_in
 none-is-100000101 = refl
 
 -- a letter among the digits, and seven digits
-pub letter : date_of (0x32 ∷ 0x30 ∷ 0x30 ∷ 0x30 ∷ 0x30 ∷ 0x32 ∷ 0x32 ∷ 0x41 ∷ []) ≡ Not
+pub letter : date_of (0x32 ∷ 0x30 ∷ 0x30 ∷ 0x30 ∷ 0x30 ∷ 0x32 ∷ 0x32 ∷ 0x41 ∷ []) ≡ None
 unfolding date_of is_date exists days_in
 letter = refl
 
-pub seven : date_of (0x32 ∷ 0x30 ∷ 0x30 ∷ 0x30 ∷ 0x32 ∷ 0x32 ∷ 0x39 ∷ []) ≡ Not
+pub seven : date_of (0x32 ∷ 0x30 ∷ 0x30 ∷ 0x30 ∷ 0x32 ∷ 0x32 ∷ 0x39 ∷ []) ≡ None
 unfolding date_of is_date exists days_in
 seven = refl
 

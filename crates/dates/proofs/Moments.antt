@@ -1,7 +1,7 @@
 -- A binary date: the test says exactly what the definition says, and the numbers of two are in their order. Assumes nothing.
 use Prim.Native.Nat.{ℕ, ◌+◌, ◌*◌, ◌^◌, ◌≤◌, ◌<◌}
 use mathlib.Core.Path.{◌≡◌, ◌∙◌}
-use mathlib.Core.Bool.{Bool, true, false, ◌&&◌}
+use mathlib.Core.Bool.{Bool, true}
 use mathlib.Core.Logic.{◌↔◌, ◌⊎◌, inl, inr, ⊎_elim}
 use mathlib.Core.List.{List, [], ◌∷◌}
 use native.Mathlib.Nat.{suc-mul, mul-le-mul_right, zero-mul, zero-add}
@@ -9,7 +9,7 @@ use native.Mathlib.Omega.{arith}
 use native.Mathlib.Decide.{dec_lt}
 use lib.Dec.{leb, eqb}
 use lib.ListN.{length, get_or}
-use borrow.Author.Tests.{le-leb, leb-true, eq-eqb, eqb-true, ne_eqb}
+use borrow.Author.Tests.{le-leb, leb-true, eqb-true}
 use Rattle.laws.specs.Digits.{value}
 use Rattle.laws.specs.Bytes.{Bytes}
 use Rattle.laws.proofs.Cases.{all_true}
@@ -115,16 +115,3 @@ order-exact (x ∷ s) [] p q l = absurd (omega arith)
 order-exact (x ∷ s) (y ∷ t) p q l =
     let m : length s ≡ length t = omega arith in
     order-next x y s t p.1 q.1 m (order-exact s t p.1 q.1 m)
-
--- ---- the ways out of `is_moment`
-
-pub moment-long : (s : List ℕ) → (length s ≡ 8 → ⊥) → false ≡ is_moment s
-unfolding is_moment
-moment-long s h = rw (ne_eqb _ _ h)
-
--- of eight bytes, these numbers being read off those of the date: the tests in a row, as the code has them
-pub moment-tested : (s : List ℕ) → length s ≡ 8 → (c y m d : ℕ) → (c ≡ get_or s 0 0) × (y ≡ get_or s 1 0) × (m ≡ get_or s 2 0) × (d ≡ get_or s 3 0)
-    → (x : Bool) → x ≡ exists (c * 100 + y) m d
-    → (leb c 99 && leb y 99 && x && leb (get_or s 4 0) 23 && leb (get_or s 5 0) 59 && leb (get_or s 6 0) 59 && eqb (get_or s 7 0) 0x5A) ≡ is_moment s
-unfolding is_moment
-moment-tested s l c y m d (p, q, r, t) x e = rw (eq-eqb _ _ l, e, p, q, r, t)

@@ -1,132 +1,106 @@
 -- The printed date: the test says exactly what the definition says, and no two dates have one text. Assumes nothing.
 use Prim.Native.Nat.{ℕ, suc, ◌+◌, ◌-◌, ◌*◌, ◌/◌, ◌%◌, ◌≤◌, ◌<◌}
 use mathlib.Core.Path.{◌≡◌, refl, sym, ap, ◌∙◌}
-use mathlib.Core.Bool.{true, false}
-use mathlib.Core.Logic.{◌↔◌, ◌⊎◌, inl, inr}
-use mathlib.Core.List.{List, [], ◌∷◌, ◌++◌, map, map-append}
+use mathlib.Core.Bool.{true}
+use mathlib.Core.Logic.{◌↔◌, inl, inr}
+use mathlib.Core.List.{List, [], ◌∷◌, ◌++◌, map-append}
 use native.Mathlib.Omega.{arith}
 use lib.Dec.{eqb}
-use lib.ListN.{length, get_or, drop}
-use borrow.Author.Tests.{le-leb, eq-eqb, eqb-true, ne_eqb}
+use lib.ListN.{length, get_or}
+use borrow.Author.Tests.{le-leb, eq-eqb, eqb-true}
+use Rattle.std.specs.Prelude.{Option, Some, None}
 use Rattle.laws.specs.Ascii.{fixed}
-use Rattle.laws.specs.Bytes.{Bytes}
-use Rattle.laws.specs.Digits.{digits, value}
-use Rattle.laws.specs.Layout.{part, field}
+use Rattle.laws.specs.Digits.{digits}
 use Rattle.laws.specs.Tests.{all_below, same}
-use Rattle.laws.proofs.Arms.{Others, passed}
-use Rattle.laws.proofs.Cases.{which, all_true, at_each, agree, same-eq}
-use Rattle.laws.proofs.Bases.{below-take, below-drop, digits_append, value-digits, digits-read}
-use Rattle.laws.proofs.Layouts.{by_entries, part-long}
-use Rattle.dates.specs.Calendar.{Exists, exists}
-use Rattle.dates.specs.Pairs.{two_digits, pair_at, year_of}
+use Rattle.laws.proofs.Cases.{which, all_true, agree, same-eq}
+use Rattle.laws.proofs.Bases.{digits_append}
+use Rattle.laws.proofs.Layouts.{by_entries}
+use Rattle.dates.specs.Calendar.{Exists}
+use Rattle.dates.specs.Pairs.{two_digits, pair_at, year_of, read_exists}
 use Rattle.dates.specs.Printed.{month_names, month_name, printed_text, IsPrintedDate, numbered_from, month_number, is_printed_date}
 use Rattle.dates.proofs.Calendars.{exists-exact}
 use Rattle.dates.proofs.Dates.{small}
-use Rattle.dates.proofs.Texts.{Pair, at, two_back, pair}
+use Rattle.dates.proofs.Texts.{Pair, Year, at, pair, year}
 
--- ---- a month's letters, and the number that they make
+-- ---- a month's letters
 
-abbrev letters : ℕ → ℕ
-letters month = value 256 (month_name month)
+-- the month that three letters name has these letters
+abbrev Named : List (List ℕ) → ℕ → List ℕ → ℕ → Type 0
+Named names i letters m = (k : ℕ) × (m ≡ i + k) × (letters ≡ get_or names k [])
 
--- the number that a month's letters make has that month
-letters-month : (month : ℕ) → month < 13 → month_number (letters month) ≡ month
-unfolding month_number all_below
-letters-month = agree (λ m. month_number (letters m)) (λ m. m) 13 refl
-
--- and no other three bytes make it
-letters-bytes : (month : ℕ) → month < 12 → digits 256 3 (letters (suc month)) ≡ month_name (suc month)
-unfolding digits all_below
-letters-bytes month h = same-eq _ _ (at_each (λ m. same (digits 256 3 (letters (suc m))) (month_name (suc m))) 12 refl month h)
-
--- a number has a month only where that month's letters make it
-abbrev Made : List (List ℕ) → ℕ → ℕ → ℕ → Type 0
-Made names i n m = (m ≡ 0) ⊎ ((k : ℕ) × (m ≡ i + k) × (n ≡ value 256 (get_or names k [])))
-
-made : (names : List (List ℕ)) (i n : ℕ) → Made names i n (numbered_from i names n)
-made [] i n = inl refl
-made (name ∷ names) i n =
-    elim (which (eqb n (value 256 name))) [
-      | inl q ↦ rw q (inr (0, omega arith, eqb-true _ _ q))
-      | inr q ↦ rw q (later (made names (suc i) n))
+named : (names : List (List ℕ)) (i : ℕ) (letters : List ℕ) (m : ℕ) → numbered_from i names letters ≡ Some m → Named names i letters m
+named [] i letters m e = cc
+named (name ∷ names) i letters m e =
+    elim (which (same letters name)) [
+      | inl q ↦
+          let f : Some i ≡ Some m = rw q at e in
+          let g : i ≡ m = cc in
+          (0, omega arith, same-eq letters name q)
+      | inr q ↦ let (k, f, g) = named names (suc i) letters m (rw q at e) in (suc k, omega arith, g)
     ]
-  where
-    later : {m : ℕ} → Made names (suc i) n m → Made (name ∷ names) i n m
-    later (inl e) = inl e
-    later (inr (k, e, f)) = inr (suc k, omega arith, f)
 
-month-made : (n : ℕ) → 1 ≤ month_number n → n ≡ letters (month_number n)
+month-named : (a b c m : ℕ) → month_number a b c ≡ Some m → a ∷ b ∷ c ∷ [] ≡ month_name m
 unfolding month_number
-month-made n h = of (made month_names 1 n)
-  where
-    of : Made month_names 1 n (numbered_from 1 month_names n) → n ≡ letters (numbered_from 1 month_names n)
-    of (inl e) = absurd (omega arith)
-    of (inr (k, e, f)) = let g : numbered_from 1 month_names n ≡ suc k = omega arith in rw g f
+month-named a b c m e = let (k, f, g) = named month_names 1 (a ∷ b ∷ c ∷ []) m e in let h : m ≡ suc k = omega arith in rw h g
 
--- three bytes are the letters of the month that their number has
-month-bytes : (s : List ℕ) → Bytes s → length s ≡ 3 → 1 ≤ month_number (value 256 s) → month_number (value 256 s) ≤ 12 → s ≡ month_name (month_number (value 256 s))
-month-bytes s b l low high =
-    let m = month_number (value 256 s) in
-    let e : m ≡ suc (m - 1) = omega arith in
-    let d : digits 256 3 (value 256 s) ≡ s = rw l at (digits-read 256 (omega arith) 0 s b) in
-    sym d ∙ ap (digits 256 3) (month-made (value 256 s) low) ∙ rw e (letters-bytes (m - 1) (omega arith))
-
+-- a month's name has three letters, and these name the month
 name-long : (month : ℕ) → month < 12 → length (month_name (suc month)) ≡ 3
 unfolding all_below
 name-long = agree (λ m. length (month_name (suc m))) (λ m. 3) 12 refl
 
--- ---- what `month_number` answers
+abbrev letters : ℕ → Option ℕ
+letters month = month_number (at (month_name month) 0) (at (month_name month) 1) (at (month_name month) 2)
 
-pub named : (month n : ℕ) → month < 13 → n ≡ letters month → month ≡ month_number n
-named month n h e = sym (ap month_number e ∙ letters-month month h)
+letters-month : (month : ℕ) → month < 12 → letters (suc month) ≡ Some (suc month)
+unfolding month_number all_below
+letters-month month h = some (letters (suc month)) (agree (λ m. or_none (letters (suc m))) (λ m. suc m) 12 refl month h)
+  where
+    or_none : Option ℕ → ℕ
+    or_none (Some n) = n
+    or_none None = 0
 
-unnamed-from : (names : List (List ℕ)) (i n : ℕ) (A : Type 0) → Others (map (value 256) names) n A → 0 ≡ numbered_from i names n
-unnamed-from [] i n A h = refl
-unnamed-from (name ∷ names) i n A h =
-    let B : Type 0 = A × (n ≡ value 256 name → ⊥) in
-    rw (ne_eqb n (value 256 name) (passed (map (value 256) names) n B h).1) (unnamed-from names (suc i) n B h)
-
-pub unnamed : (n : ℕ) → Others (map (value 256) month_names) n Unit → 0 ≡ month_number n
-unfolding month_number
-unnamed n h = unnamed-from month_names 1 n Unit h
+    some : (o : Option ℕ) → or_none o ≡ suc month → o ≡ Some (suc month)
+    some (Some n) e = ap (λ (x : ℕ). Some x) e
+    some None e = absurd (omega arith)
 
 -- ---- nine characters
 
 -- two digits of a number, read again
-digit-pair : (q r : ℕ) → q < 10 → r < 10 → two_digits (48 + q) (48 + r) ≡ q * 10 + r
+digit-pair : (q r : ℕ) → q < 10 → r < 10 → two_digits (48 + q) (48 + r) ≡ Some (q * 10 + r)
 unfolding two_digits
 digit-pair q r g h =
     let a : 48 ≤ 48 + q = omega arith in
     let b : 48 + q ≤ 57 = omega arith in
     let c : 48 ≤ 48 + r = omega arith in
     let d : 48 + r ≤ 57 = omega arith in
-    rw (le-leb _ _ a, le-leb _ _ b, le-leb _ _ c, le-leb _ _ d) (omega arith)
+    let e : (48 + q - 48) * 10 + (48 + r - 48) ≡ q * 10 + r = omega arith in
+    rw (le-leb _ _ a, le-leb _ _ b, le-leb _ _ c, le-leb _ _ d, e)
 
 -- nine characters, of which the middle three are these
 abbrev nine : ℕ → ℕ → ℕ → ℕ → ℕ → List ℕ
 nine year a b c day = fixed 4 year ++ (a ∷ b ∷ c ∷ []) ++ fixed 2 day
 
-abbrev month_of : List ℕ → ℕ
-month_of s = month_number (field s 4 3)
+abbrev month_of : List ℕ → Option ℕ
+month_of s = month_number (at s 4) (at s 5) (at s 6)
 
 -- the parts that some bytes are read as
 record ReadAs (s : List ℕ) (year month day : ℕ) : Type 0 where
   long : length s ≡ 9
-  year-is : year_of s ≡ year
-  month-is : month_of s ≡ month
-  day-is : pair_at s 7 ≡ day
+  year-is : year_of s ≡ Some year
+  month-is : month_of s ≡ Some month
+  day-is : pair_at s 7 ≡ Some day
 
-read-nine : (y m d a b c : ℕ) → y < 10000 → d < 100 → month_number (value 256 (a ∷ b ∷ c ∷ [])) ≡ m → ReadAs (nine y a b c d) y m d
+read-nine : (y m d a b c : ℕ) → y < 10000 → d < 100 → month_number a b c ≡ Some m → ReadAs (nine y a b c d) y m d
 unfolding fixed digits
 read-nine y m d a b c g h e =
-    let v = value-digits 10 (omega arith) 4 y g in
+    let q : (y / 1000 % 10 * 10 + y / 100 % 10) * 100 + (y / 10 % 10 * 10 + y / 1 % 10) ≡ y = omega arith in
+    let r : d / 10 % 10 * 10 + d / 1 % 10 ≡ d = omega arith in
     record {
       long = refl;
       year-is =
-          rw (digit-pair (y / 1000 % 10) (y / 100 % 10) (omega arith) (omega arith), digit-pair (y / 10 % 10) (y / 1 % 10) (omega arith) (omega arith))
-          (omega arith);
+          rw (digit-pair (y / 1000 % 10) (y / 100 % 10) (omega arith) (omega arith), digit-pair (y / 10 % 10) (y / 1 % 10) (omega arith) (omega arith), q);
       month-is = e;
-      day-is = rw (digit-pair (d / 10 % 10) (d / 1 % 10) (omega arith) (omega arith)) (omega arith);
+      day-is = rw (digit-pair (d / 10 % 10) (d / 1 % 10) (omega arith) (omega arith), r);
     }
 
 -- a date's text is read as its year, month and day
@@ -138,51 +112,58 @@ read-text y m d x =
     let n = by_entries 3 (month_name m) l in
     let t : printed_text y m d ≡ nine y (at (month_name m) 0) (at (month_name m) 1) (at (month_name m) 2) d
     = ap (λ (name : List ℕ). fixed 4 y ++ name ++ fixed 2 d) n in
-    rw t (read-nine y m d _ _ _ (omega arith) (omega arith) (ap (λ (name : List ℕ). month_number (value 256 name)) (sym n) ∙ letters-month m (omega arith)))
+    let f : letters m ≡ Some m = rw e (letters-month (m - 1) (omega arith)) in
+    rw t (read-nine y m d _ _ _ (omega arith) (omega arith) f)
 
 -- two digits, and four, are the text of the number that they are read as
-text-two : (a b : ℕ) → Pair a b → fixed 2 (two_digits a b) ≡ a ∷ b ∷ []
+text-two : (a b n : ℕ) → Pair a b n → fixed 2 n ≡ a ∷ b ∷ []
 unfolding fixed digits
-text-two a b p =
-    let n = two_digits a b in
-    let i = p.is in
+text-two a b n p =
     let e : 48 + n / 10 % 10 ≡ a = omega arith in
     let f : 48 + n / 1 % 10 ≡ b = omega arith in
     rw (e, f)
 
-text-four : (a b c d : ℕ) → Pair a b → Pair c d → fixed 4 (two_digits a b * 100 + two_digits c d) ≡ a ∷ b ∷ c ∷ d ∷ []
+text-four : (s : List ℕ) (n : ℕ) → Year s n → fixed 4 n ≡ at s 0 ∷ at s 1 ∷ at s 2 ∷ at s 3 ∷ []
 unfolding fixed
-text-four a b c d p q =
-    let i = q.is in
-    let e = digits_append 10 (omega arith) 2 2 (two_digits a b) (two_digits c d) (omega arith) in
-    rw (e, map-append, text-two a b p, text-two c d q)
+text-four s n y =
+    let p = y.first in
+    let q = y.second in
+    let e = digits_append 10 (omega arith) 2 2 y.high y.low (omega arith) in
+    rw (y.is, e, map-append, text-two _ _ _ p, text-two _ _ _ q)
+
+-- a year, a month and a day that exist were read: these
+record Read (y m d : Option ℕ) : Type 0 where
+  year-read : ℕ
+  month-read : ℕ
+  day-read : ℕ
+  year-is : y ≡ Some year-read
+  month-is : m ≡ Some month-read
+  day-is : d ≡ Some day-read
+  exist : Exists year-read month-read day-read
+
+all-read : (y m d : Option ℕ) → read_exists y m d ≡ true → Read y m d
+all-read (Some y) (Some m) (Some d) e =
+    record { year-read = y; month-read = m; day-read = d; year-is = refl; month-is = refl; day-is = refl; exist = (exists-exact y m d).0 e }
+all-read (Some y) (Some m) None e = cc
+all-read (Some y) None d e = cc
+all-read None m d e = cc
 
 -- bytes that are read as a date are its text
-parts-of : (s : List ℕ) → length s ≡ 9 → s ≡ (at s 0 ∷ at s 1 ∷ at s 2 ∷ at s 3 ∷ []) ++ part s 4 3 ++ (at s 7 ∷ at s 8 ∷ [])
-parts-of s l = rw (by_entries 9 s l)
-
-text-back : (s : List ℕ) → Bytes s → length s ≡ 9 → Exists (year_of s) (month_of s) (pair_at s 7) → s ≡ printed_text (year_of s) (month_of s) (pair_at s 7)
-text-back s b l x =
-    let k = small x in
-    let p = two_back (at s 0) (at s 1) (omega arith) in
-    let q = two_back (at s 2) (at s 3) (omega arith) in
-    let r = two_back (at s 7) (at s 8) (omega arith) in
-    let m = month-bytes (part s 4 3) (below-take 256 3 (drop 4 s) (below-drop 256 4 s b)) (part-long s 4 3 (omega arith)) x.first_month x.last_month in
-    let y = text-four (at s 0) (at s 1) (at s 2) (at s 3) (pair _ _ p.0 p.1) (pair _ _ q.0 q.1) in
-    let d = text-two (at s 7) (at s 8) (pair _ _ r.0 r.1) in
-    rw (y, d, ← m) (parts-of s l)
+text-back : (s : List ℕ) → length s ≡ 9 → (y m d : ℕ) → year_of s ≡ Some y → month_of s ≡ Some m → pair_at s 7 ≡ Some d → s ≡ printed_text y m d
+text-back s l y m d p q r =
+    rw (text-four s y (year s p), ← month-named _ _ _ _ q, text-two _ _ _ (pair r)) (by_entries 9 s l)
 
 -- ---- kept exactly when
 
-pub printed-exact : (s : List ℕ) → Bytes s → (is_printed_date s ≡ true) ↔ IsPrintedDate s
+pub printed-exact : (s : List ℕ) → (is_printed_date s ≡ true) ↔ IsPrintedDate s
 unfolding is_printed_date
-printed-exact s b = (sound, complete)
+printed-exact s = (sound, complete)
   where
     sound : is_printed_date s ≡ true → IsPrintedDate s
     sound e =
-        let t = all_true (eqb (length s) 9 ∷ exists (year_of s) (month_of s) (pair_at s 7) ∷ []) e in
-        let x = (exists-exact _ _ _).0 (t 1) in
-        (year_of s, month_of s, pair_at s 7, x, text-back s b (eqb-true _ _ (t 0)) x)
+        let t = all_true (eqb (length s) 9 ∷ read_exists (year_of s) (month_of s) (pair_at s 7) ∷ []) e in
+        let r = all-read (year_of s) (month_of s) (pair_at s 7) (t 1) in
+        (r.year-read, r.month-read, r.day-read, r.exist, text-back s (eqb-true _ _ (t 0)) _ _ _ r.year-is r.month-is r.day-is)
 
     complete : IsPrintedDate s → is_printed_date s ≡ true
     complete (y, m, d, x, e) =
@@ -194,14 +175,7 @@ pub one-printed-date : {y m d z n e : ℕ} → Exists y m d → Exists z n e →
 one-printed-date {y} {m} {d} {z} {n} {e} x w p =
     let q = read-text y m d x in
     let r : ReadAs (printed_text y m d) z n e = rw p (read-text z n e w) in
-    (sym q.year-is ∙ r.year-is, sym q.month-is ∙ r.month-is, sym q.day-is ∙ r.day-is)
-
--- ---- what `is_printed_date` answers
-
-pub other_length : (s : List ℕ) → (length s ≡ 9 → ⊥) → false ≡ is_printed_date s
-unfolding is_printed_date
-other_length s h = rw (ne_eqb _ _ h)
-
-pub nine-read : (s : List ℕ) → length s ≡ 9 → exists (year_of s) (month_of s) (pair_at s 7) ≡ is_printed_date s
-unfolding is_printed_date
-nine-read s l = rw (eq-eqb _ _ l)
+    let f : Some y ≡ Some z = sym q.year-is ∙ r.year-is in
+    let g : Some m ≡ Some n = sym q.month-is ∙ r.month-is in
+    let h : Some d ≡ Some e = sym q.day-is ∙ r.day-is in
+    (cc, cc, cc)

@@ -1,12 +1,11 @@
 -- The window of an expiry: the test says exactly what the definition says. Assumes nothing.
-use Prim.Native.Nat.{ℕ, ◌+◌, ◌-◌, ◌≤◌, ◌<◌}
+use Prim.Native.Nat.{ℕ, ◌+◌}
 use mathlib.Core.Path.{◌≡◌}
-use mathlib.Core.Bool.{true, false}
+use mathlib.Core.Bool.{true}
 use mathlib.Core.Logic.{◌↔◌}
-use native.Mathlib.Omega.{arith}
 use lib.Dec.{leb}
-use borrow.Author.Tests.{le-leb, lt-leb, leb-true}
-use Rattle.laws.proofs.Cases.{and-true, leb-alike}
+use borrow.Author.Tests.{le-leb, leb-true}
+use Rattle.laws.proofs.Cases.{and-true}
 use Rattle.dates.specs.Date.{InWindow, in_window}
 
 -- "t <= e <= t + 60,000": the test is true exactly where today and expiry are so
@@ -15,11 +14,3 @@ window-exact t e = (sound, λ w. rw (le-leb _ _ w.0, le-leb _ _ w.1))
   where
     sound : in_window t e ≡ true → InWindow t e
     sound h = let p = and-true (leb t e) (leb e (t + 60000)) h in (leb-true _ _ p.0, leb-true _ _ p.1)
-
--- ---- what `in_window` answers
-
-pub passed : (t e : ℕ) → e < t → false ≡ in_window t e
-passed t e h = rw (lt-leb t e h)
-
-pub near : (t e : ℕ) → t ≤ e → leb (e - t) 60000 ≡ in_window t e
-near t e h = rw (le-leb t e h) (leb-alike (e - t) 60000 e (t + 60000) (λ g. omega arith) (λ g. omega arith))

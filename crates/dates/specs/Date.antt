@@ -1,11 +1,9 @@
 -- 01, "Dates": a date as an eight-digit number (today), as eight ASCII digits, and the window of an expiry.
-use Rattle.std.specs.Prelude.{ℕ, ◌+◌, ◌-◌, ◌*◌, ◌/◌, ◌%◌, ◌≤◌, ◌≡◌, Bool, cond, ◌&&◌, List, ◌++◌, map, leb, eqb, length}
+use Rattle.std.specs.Prelude.{ℕ, ◌+◌, ◌-◌, ◌*◌, ◌/◌, ◌%◌, ◌≤◌, ◌≡◌, Bool, cond, ◌&&◌, List, ◌++◌, map, leb, eqb, length, Option, Some, None}
 use Rattle.laws.specs.Ascii.{fixed}
 use Rattle.laws.specs.Digits.{value}
 use Rattle.laws.specs.Tests.{each}
 use Rattle.dates.specs.Calendar.{Exists, exists}
-use Rattle.dates.specs.declared.Date.{Date}
-use Rattle.dates.specs.declared.Date.TheVariants.{Is, Not}
 
 -- ---- a date as a number of eight digits
 
@@ -40,8 +38,8 @@ is_digit b = leb 48 b && leb b 57
 abbrev pub text_number : List ℕ → ℕ
 text_number s = value 10 (map (λ b. b - 48) s)
 
-unfoldable pub date_of : List ℕ → Date
-date_of s = cond (eqb (length s) 8 && each is_digit s && is_date (text_number s)) (Is (text_number s)) Not
+unfoldable pub date_of : List ℕ → Option ℕ
+date_of s = cond (eqb (length s) 8 && each is_digit s && is_date (text_number s)) (Some (text_number s)) None
 
 -- ---- "CHUID expiry e and today t, as eight-digit numbers: t <= e <= t + 60,000 (six years)"
 

@@ -1,10 +1,9 @@
 -- 2026-03: "Element 04 now has length 9: four digits, three capitals JAN to DEC, two digits, a real date."
-use Rattle.std.specs.Prelude.{ℕ, suc, ◌≡◌, Bool, cond, ◌&&◌, List, [], ◌∷◌, ◌++◌, eqb, length, get_or}
+use Rattle.std.specs.Prelude.{ℕ, suc, ◌≡◌, Bool, cond, ◌&&◌, List, [], ◌∷◌, ◌++◌, eqb, length, get_or, Option, Some, None}
 use Rattle.laws.specs.Ascii.{ascii, fixed}
-use Rattle.laws.specs.Digits.{value}
-use Rattle.laws.specs.Layout.{field}
-use Rattle.dates.specs.Calendar.{Exists, exists}
-use Rattle.dates.specs.Pairs.{pair_at, year_of}
+use Rattle.laws.specs.Tests.{same}
+use Rattle.dates.specs.Calendar.{Exists}
+use Rattle.dates.specs.Pairs.{pair_at, year_of, read_exists}
 
 -- "three capitals JAN to DEC": the months' letters, in the year's order
 abbrev pub month_names : List (List ℕ)
@@ -26,15 +25,15 @@ IsPrintedDate s = (year : ℕ) × (month : ℕ) × (day : ℕ) × Exists year mo
 
 -- ---- the same as a test
 
--- the number of the name, counted from i, whose letters make the number n; 0, if there is none
-abbrev pub numbered_from : ℕ → List (List ℕ) → ℕ → ℕ
-numbered_from i [] n = 0
-numbered_from i (name ∷ names) n = cond (eqb n (value 256 name)) i (numbered_from (suc i) names n)
+-- the number of the name, counted from i, which the letters are; none, if they are none of the names
+abbrev pub numbered_from : ℕ → List (List ℕ) → List ℕ → Option ℕ
+numbered_from i [] letters = None
+numbered_from i (name ∷ names) letters = cond (same letters name) (Some i) (numbered_from (suc i) names letters)
 
--- the month whose letters make the number n
-unfoldable pub month_number : ℕ → ℕ
-month_number n = numbered_from 1 month_names n
+-- the month that three letters name
+unfoldable pub month_number : ℕ → ℕ → ℕ → Option ℕ
+month_number a b c = numbered_from 1 month_names (a ∷ b ∷ c ∷ [])
 
 -- nine bytes, which read as a year, a month and a day that exist
 unfoldable pub is_printed_date : List ℕ → Bool
-is_printed_date s = eqb (length s) 9 && exists (year_of s) (month_number (field s 4 3)) (pair_at s 7)
+is_printed_date s = eqb (length s) 9 && read_exists (year_of s) (month_number (get_or s 4 0) (get_or s 5 0) (get_or s 6 0)) (pair_at s 7)

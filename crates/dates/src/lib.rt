@@ -2,19 +2,12 @@
 // eight bytes of a header; and the window of an expiry.
 #![tactic(auto)]
 
-ghost use Rattle.std.specs.Prelude.{◌≡◌, ◌<◌, ◌≤◌};
+ghost use Rattle.std.specs.Prelude.{◌≡◌, ◌≤◌, length};
 ghost use Rattle.dates.specs.Calendar.{leap, days_in, exists};
-ghost use Rattle.dates.specs.Date.{is_date, is_digit, date_of, in_window};
+ghost use Rattle.dates.specs.Date.{is_date, date_of, in_window};
 ghost use Rattle.dates.specs.Moment.{is_moment};
-ghost use Rattle.dates.specs.Pairs.{two_digits};
+ghost use Rattle.dates.specs.Pairs.{two_digits, year_of};
 ghost use Rattle.dates.specs.Printed.{month_number, is_printed_date};
-
-// A text date: its eight-digit number.
-#[derive(Clone, Copy)]
-pub enum Date {
-    Is(u64),
-    Not,
-}
 
 // The months that the calendar's rule names.
 const JANUARY: u64 = 1;
@@ -34,6 +27,7 @@ fn is_leap(year: u64) -> bool
 
 // How many days a month of a year has; none, if there is no such month. The calendar's rule: the months alternate between 31
 // and 30 days, starting again with 31 in August; only February has 28, in a leap year 29.
+#[tactic(auto, using(crate::proofs::Calendars::days))]
 fn days_in(year: u64, month: u64) -> u64
     ensures { result ≡ days_in year month }
 {
@@ -49,6 +43,7 @@ fn days_in(year: u64, month: u64) -> u64
 }
 
 // "year 0001 to 9999, Gregorian". A month that there is not has no days, so no day of it exists.
+#[tactic(auto, using(crate::proofs::Calendars::existence))]
 pub fn exists(year: u64, month: u64, day: u64) -> bool
     ensures { result ≡ exists year month day }
 {
@@ -56,75 +51,87 @@ pub fn exists(year: u64, month: u64, day: u64) -> bool
 }
 
 // "Calls take today as a number": is it a date's?
+#[tactic(auto, unfolding(crate::specs::Date::is_date))]
 pub fn is_date(n: u64) -> bool
     ensures { result ≡ is_date n }
 {
     exists(n / 10000, n / 100 % 100, n % 100)
 }
 
-fn is_digit(b: u8) -> bool
-    ensures { result ≡ is_digit b }
+// Two ASCII digits as a number; none, where a byte is no digit.
+#[tactic(auto, unfolding(crate::specs::Pairs::two_digits))]
+fn two_digits(a: u8, b: u8) -> Option<u64>
+    ensures { result ≡ two_digits a b }
 {
-    (48 <= b) & (b <= 57)
-}
-
-// Two ASCII digits as a number. Bytes that are none give 10,000, which is no year, no month and no day.
-fn two_digits(a: u8, b: u8) -> u64
-    ensures { (result ≡ two_digits a b) × (result ≤ 10000) }
-{
-    if is_digit(a) & is_digit(b) {
-        return (numbers::wide(a) - 48) * 10 + (numbers::wide(b) - 48);
+    if a.is_ascii_digit() & b.is_ascii_digit() {
+        return Some(u64::from(a - b'0') * 10 + u64::from(b - b'0'));
     }
-    10000
+    None
 }
 
-// "Eight ASCII digits": the date that they are.
-pub fn date_of(s: &[u8]) -> Date
+// The year, with which every date's text begins.
+#[tactic(auto, using(crate::proofs::Texts::most))]
+fn year_of(s: &[u8]) -> Option<u64>
+    requires { 4 ≤ length s.now }
+    ensures { result ≡ year_of s.now }
+{
+    Some(two_digits(s[0], s[1])? * 100 + two_digits(s[2], s[3])?)
+}
+
+// "Eight ASCII digits": the number of the date that they are.
+#[tactic(auto, using(crate::proofs::Texts::ways_out))]
+pub fn date_of(s: &[u8]) -> Option<u64>
     ensures { result ≡ date_of s.now }
 {
     if s.len() != 8 {
-        return Date::Not;
+        return None;
     }
-    let year = two_digits(s[0], s[1]) * 100 + two_digits(s[2], s[3]);
-    let month = two_digits(s[4], s[5]);
-    let day = two_digits(s[6], s[7]);
+    let year = year_of(s)?;
+    let month = two_digits(s[4], s[5])?;
+    let day = two_digits(s[6], s[7])?;
     if !exists(year, month, day) {
-        return Date::Not;
+        return None;
     }
-    Date::Is(year * 10000 + month * 100 + day)
+    Some(year * 10000 + month * 100 + day)
 }
 
-// The month that three capitals name, by the number that they make; 0, if they name none.
-fn month_number(letters: u64) -> u64
-    ensures { result ≡ month_number letters }
+// The month that three capitals name.
+#[tactic(auto, unfolding(crate::specs::Printed::month_number))]
+fn month_number(a: u8, b: u8, c: u8) -> Option<u64>
+    ensures { result ≡ month_number a b c }
 {
-    match letters {
-        0x4A414E => 1, // JAN
-        0x464542 => 2, // FEB
-        0x4D4152 => 3, // MAR
-        0x415052 => 4, // APR
-        0x4D4159 => 5, // MAY
-        0x4A554E => 6, // JUN
-        0x4A554C => 7, // JUL
-        0x415547 => 8, // AUG
-        0x534550 => 9, // SEP
-        0x4F4354 => 10, // OCT
-        0x4E4F56 => 11, // NOV
-        0x444543 => 12, // DEC
-        _ => 0,
+    match &[a, b, c] {
+        b"JAN" => Some(1),
+        b"FEB" => Some(2),
+        b"MAR" => Some(3),
+        b"APR" => Some(4),
+        b"MAY" => Some(5),
+        b"JUN" => Some(6),
+        b"JUL" => Some(7),
+        b"AUG" => Some(8),
+        b"SEP" => Some(9),
+        b"OCT" => Some(10),
+        b"NOV" => Some(11),
+        b"DEC" => Some(12),
+        _ => None,
     }
 }
 
 // "four digits, three capitals JAN to DEC, two digits, a real date"
+#[tactic(auto, unfolding(crate::specs::Printed::is_printed_date))]
 pub fn is_printed_date(s: &[u8]) -> bool
     ensures { result ≡ is_printed_date s.now }
 {
     if s.len() != 9 {
         return false;
     }
-    let year = two_digits(s[0], s[1]) * 100 + two_digits(s[2], s[3]);
-    let month = month_number(numbers::number(s, 4, 3));
-    let day = two_digits(s[7], s[8]);
+    let (Some(year), Some(month), Some(day)) = (
+        year_of(s),
+        month_number(s[4], s[5], s[6]),
+        two_digits(s[7], s[8]),
+    ) else {
+        return false;
+    };
     exists(year, month, day)
 }
 
@@ -139,21 +146,18 @@ pub fn in_window(today: u64, expiry: u64) -> bool
 }
 
 // "century, year (each 0 to 99), month, day (a date as above), hour to 23, minute and second to 59 as bytes, then 5A"
+#[tactic(auto, unfolding(crate::specs::Moment::is_moment))]
 pub fn is_moment(s: &[u8]) -> bool
     ensures { result ≡ is_moment s.now }
 {
     if s.len() != 8 {
         return false;
     }
-    let century = numbers::wide(s[0]);
-    let year = numbers::wide(s[1]);
+    let century = u64::from(s[0]);
+    let year = u64::from(s[1]);
     (century <= 99)
         & (year <= 99)
-        & exists(
-            century * 100 + year,
-            numbers::wide(s[2]),
-            numbers::wide(s[3]),
-        )
+        & exists(century * 100 + year, u64::from(s[2]), u64::from(s[3]))
         & (s[4] <= 23)
         & (s[5] <= 59)
         & (s[6] <= 59)

@@ -16,7 +16,7 @@ use Rattle.texts.proofs.Reading.{Reads, and_then, and, given, so, behind}
 use Rattle.texts.proofs.Numbers.{number-reads, tag-reads}
 use Rattle.kinds.specs.Tables.{Table, table}
 use Rattle.container.specs.Container.{Values, has, Allowed}
-use Rattle.container.proofs.Rows.{Distinct}
+use Rattle.container.proofs.Walking.{Distinct}
 use Rattle.container.proofs.Tags.{Plain, short, double, Tags, tags, distinct}
 use Rattle.elements.specs.Elements.{shape, element_line, element_lines, element_count, elements_part}
 

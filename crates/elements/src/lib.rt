@@ -3,37 +3,21 @@
 // ends, so does the text: no writer asks anything of its caller.
 #![tactic(auto)]
 
-ghost use Rattle.std.specs.Prelude.{◌≡◌, ◌-◌, length};
+ghost use Rattle.std.specs.Prelude.{◌≡◌, length};
 ghost use Rattle.laws.specs.Room.{Put};
 ghost use Rattle.kinds.specs.Tables.{table};
 ghost use Rattle.elements.specs.Elements.{element_line, element_lines, element_count, elements_part};
 ghost use Rattle.elements.specs.Map.{map_shape};
 
-use container::Map;
-use kinds::Slot;
-
-// How many bytes lie from one offset to another, none where they are in no order.
-fn between(start: u16, end: u16) -> u64
-    ensures { result ≡ end - start }
-{
-    if end < start {
-        return 0;
-    }
-    (end - start) as u64
-}
+use container::Span;
 
 // How many elements are there.
-fn element_count(kind: u64, map: Map) -> u64
-    ensures { result ≡ element_count (map_shape map.from map.to (length (table kind)) 0) }
+fn element_count(kind: u64, rows: &[Span; 16]) -> u64
+    ensures { result ≡ element_count (map_shape rows.now (length (table kind)) 0) }
 {
-    let tos = map.to;
-    let rows = kinds::last_row(kind);
-    let mut count: u64 = 0;
-    let mut row: u64 = 0;
-    while row < rows {
-        let end = tos[row as usize];
-        row += 1;
-        if end != 0 {
+    let mut count = 0;
+    for span in &rows[..kinds::last_row(kind) as usize] {
+        if span.to != 0 {
             count += 1;
         }
     }
@@ -50,28 +34,26 @@ fn put_element(tag: u64, n: u64, out: &mut [u8]) -> usize
 }
 
 // A line for each element that is there.
-fn put_lines(kind: u64, map: Map, out: &mut [u8]) -> usize
-    ensures { Put (element_lines (table kind) (map_shape map.from map.to (length (table kind)) 0)) out.old out.new result }
+fn put_lines(kind: u64, rows: &[Span; 16], out: &mut [u8]) -> usize
+    ensures { Put (element_lines (table kind) (map_shape rows.now (length (table kind)) 0)) out.old out.new result }
 {
-    let froms = map.from;
-    let tos = map.to;
     let mut at = 0;
-    let mut row: u64 = 0;
-    while let Slot::Holds(tag, _) = kinds::row_at(kind, row) {
-        let start = froms[row as usize];
-        let end = tos[row as usize];
-        row += 1;
-        if end != 0 {
-            at += put_element(tag, between(start, end), &mut out[at..]);
+    for (i, span) in rows.iter().enumerate() {
+        let Some(slot) = kinds::row_at(kind, i as u64) else {
+            break;
+        };
+        if span.to != 0 {
+            let size = span.to.saturating_sub(span.from);
+            at += put_element(slot.tag, size.into(), &mut out[at..]);
         }
     }
     at
 }
 
 // The section, after its count of lines.
-pub fn put_elements(kind: u64, map: Map, out: &mut [u8]) -> usize
-    ensures { Put (elements_part (table kind) (map_shape map.from map.to (length (table kind)) 0)) out.old out.new result }
+pub fn put_elements(kind: u64, rows: &[Span; 16], out: &mut [u8]) -> usize
+    ensures { Put (elements_part (table kind) (map_shape rows.now (length (table kind)) 0)) out.old out.new result }
 {
-    let at = texts::put_count(b"ELEMENTS ", element_count(kind, map), out);
-    at + put_lines(kind, map, &mut out[at..])
+    let at = texts::put_count(b"ELEMENTS ", element_count(kind, rows), out);
+    at + put_lines(kind, rows, &mut out[at..])
 }

@@ -39,15 +39,12 @@ use Rattle.iris.specs.Judged.{extent as iris_extent, record_head as iris_head, i
 use Rattle.heads.specs.Length.{read_length as read_der}
 use Rattle.heads.specs.Head.{head_of}
 use Rattle.der.specs.Walk.{items, judged as walked, certificate}
-use Rattle.verdicts.specs.Verdicts.{number_of, outright, found, verdict_of}
+use Rattle.verdicts.specs.Verdicts.{Tag, number_of, outright, found, verdict_of}
 use Rattle.verdicts.specs.declared.Fault.TheVariants.{SmallRoom, TornFolder}
 use Rattle.container.specs.Container.{largest}
 use Rattle.verdicts.specs.declared.Fault.{Fault}
-use Rattle.verdicts.specs.declared.Outcome.TheVariants.{Broken}
 use Rattle.verdicts.specs.declared.Verdict.{Verdict}
 use Rattle.verdicts.specs.Output.{Output, refusal, text, bytes_of, done_of, Leaves}
-use Rattle.verdicts.specs.declared.Tag.{Tag}
-use Rattle.verdicts.specs.declared.Tag.TheVariants.{NoTag, Of}
 use Rattle.rules.specs.Rules.{rule_of}
 use Rattle.container.specs.Reading.{Parsed, values as read-values, fault, element, located, parsed, outcome_of, outcome, verdict}
 use Rattle.container.specs.InOrder.{Named}
@@ -68,6 +65,7 @@ use Rattle.points.specs.declared.Point.{Point}
 use Rattle.points.proofs.Record.{points_of}
 use Rattle.points.proofs.Once.{says-once}
 use Rattle.views.specs.Views.{viewed}
+use Rattle.blocks.specs.Reading as block
 use Rattle.blocks.proofs.Computed.{block_of}
 use Rattle.signer.proofs.Computed.{signed_of, says}
 use Rattle.damage.proofs.Tested.{spans as spanned, damaged}
@@ -84,6 +82,7 @@ use Rattle.promises.specs.Demands.{sizes}
 use Rattle.promises.proofs.Listing.{Told, computed, computed-says}
 use Rattle.promises.proofs.Signing.{as_said}
 use Rattle.examples.specs.Examples.{Example, fascn_of, no_fascn, spans, spells, no_length, date, no_date, kept, late, printed_date, no_printed_date, conforms, breaks, checks, writes, reports, fills_lists, fills_points, signs, folder_of, no_folder, sums_up, rows_as, lasts_as, today, Holds, All, examples}
+use Rattle.std.specs.Prelude.{Some, None, Err}
 
 -- ---- each row as a test
 
@@ -100,10 +99,10 @@ is_length none n w = false
 is_length (some l) n w = eqb l.number n && eqb l.width w
 
 same_tag : Tag → Tag → Bool
-same_tag NoTag NoTag = true
-same_tag NoTag (Of u) = false
-same_tag (Of t) NoTag = false
-same_tag (Of t) (Of u) = eqb t u
+same_tag None None = true
+same_tag None (Some u) = false
+same_tag (Some t) None = false
+same_tag (Some t) (Some u) = eqb t u
 
 -- with this number, and these bytes
 same_output : Output → ℕ → List ℕ → Bool
@@ -146,7 +145,7 @@ same_row (written l v) t number line u = eqb 0 number && same l line && same_tal
 quick_row : ℕ → ℕ → ℕ → List ℕ → Tally → ℕ → Row
 quick_row kind offset size c t room =
     cond (ltb room row_room) (refuses SmallRoom)
-    (cond (ltb largest size) (written (row_text kind offset size (verdict_of (Broken (outright (by_length kind))))) t)
+    (cond (ltb largest size) (written (row_text kind offset size (verdict_of (Err (outright (by_length kind))))) t)
     (cond (eqb (length c) size) (written (row_text kind offset size (verdict kind today c)) (tallied kind (parsed kind today c) t)) (refuses TornFolder)))
 
 tested : Example → Bool
@@ -214,10 +213,10 @@ is-length (some l) n w e =
 
 same_tag_lem : (g h : Tag) → same_tag g h ≡ true → g ≡ h
 unfolding same_tag
-same_tag_lem NoTag NoTag e = refl
-same_tag_lem NoTag (Of u) e = absurd (true≢false (sym e))
-same_tag_lem (Of t) NoTag e = absurd (true≢false (sym e))
-same_tag_lem (Of t) (Of u) e = ap Of (eqb-true t u e)
+same_tag_lem None None e = refl
+same_tag_lem None (Some u) e = absurd (true≢false (sym e))
+same_tag_lem (Some t) None e = absurd (true≢false (sym e))
+same_tag_lem (Some t) (Some u) e = ap Some (eqb-true t u e)
 
 -- the verdict of some bytes is the first broken rule
 verdict-named : (kind today : ℕ) (c : List ℕ) → Bytes c → (r : Verdict) → r ≡ verdict kind today c → (r.number ≡ 0 → ⊥)
@@ -228,7 +227,7 @@ verdict-named kind today c b r a n = go (parsed kind today c) refl
     go : (p : Parsed (List ℕ)) → parsed kind today c ≡ p → (f : Fault) × (r.number ≡ number_of f) × Named kind today c (found f r.place r.tag)
     go (read-values vs) e = absurd (n (rw (a, e)))
     go (fault f) e =
-        let q : r ≡ verdict_of (Broken f) = a ∙ ap (λ (x : Parsed (List ℕ)). verdict_of (outcome_of x)) e in
+        let q : r ≡ verdict_of (Err f) = a ∙ ap (λ (x : Parsed (List ℕ)). verdict_of (outcome_of x)) e in
         (f.fault, ap (λ (v : Verdict). v.number) q, rw q (named kind today c b f e))
 
 breaks-so : (kind : ℕ) (c : List ℕ) → Bytes c → (number place : ℕ) (tag : Tag) → (number ≡ 0 → ⊥) → (verdict kind today c).number ≡ number → (verdict kind today c).place ≡ place
@@ -419,7 +418,7 @@ same_row_lem (written m w) t number line u h =
     ((λ i. record { number = n i; length = length (l i); tally = v i }), l)
 
 -- the last lines' answer has no place and no tag
-plain-last : (good agreement room : ℕ) → let d = done_of (last_output good agreement room) in (d.place ≡ 0) × (d.tag ≡ NoTag)
+plain-last : (good agreement room : ℕ) → let d = done_of (last_output good agreement room) in (d.place ≡ 0) × (d.tag ≡ None)
 plain-last good agreement room =
     elim (which (ltb room row_room)) [
       | inl l ↦ rw (last-3 good agreement room (ltb-true _ _ l)) (refl, refl)
@@ -473,8 +472,8 @@ so (date n) t = (date-exact n).0 t
 so (no_date n) t = fails (is_date n) (date-exact n) t
 so (kept t e) h = (window-exact t e).0 h
 so (late t e) h = fails (in_window t e) (window-exact t e) h
-so (printed_date s) t = let c = and-true (are_bytes s) (is_printed_date s) t in (printed-exact s (are-bytes s c.0)).0 c.1
-so (no_printed_date s) t = let c = and-true (are_bytes s) (not (is_printed_date s)) t in fails (is_printed_date s) (printed-exact s (are-bytes s c.0)) c.1
+so (printed_date s) t = let c = and-true (are_bytes s) (is_printed_date s) t in (printed-exact s).0 c.1
+so (no_printed_date s) t = let c = and-true (are_bytes s) (not (is_printed_date s)) t in fails (is_printed_date s) (printed-exact s) c.1
 so (conforms kind c) t = let b = and-true (are_bytes c) (eqb (verdict kind today c).number 0) t in (exactly_when kind today c (are-bytes c b.0)).0 (eqb-true _ 0 b.1)
 so (breaks kind c number place tag) t =
     let v = verdict kind today c in
@@ -506,7 +505,7 @@ all_so [] t = tt
 all_so (e ∷ es) t = let c = and-true (tested e) (all_tested es) t in (so e c.0, all_so es c.1)
 
 all_tested_lem : all_tested examples ≡ true
-unfolding all_tested tested are_bytes spanned all_below is_none is_length same_tag same_output same_point same_points same_told holds_each points_of examples ones digits exclusive values checked characters encoded values_of framed decoded is_fascn length_bytes read_length days_in exists is_date date_of two_digits month_number is_printed_date is_moment is_uuid is_policy is_text ended is_creator point_holds points_hold view_head fills whole extent record_head is_minutiae informed block_extent face_head is_facial date_holds marks_hold shape_holds iris_extent iris_head is_iris read_der head_of items walked certificate rule_of element located parsed outcome sheet_of write_output fixed decimal hex2 hex_tag card_part element_lines element_count open_part report_text report_output viewed block_of signed_of are_entries same_tally same_row one over row_text last_text seen quick_row last_output
+unfolding all_tested tested are_bytes spanned all_below is_none is_length same_tag same_output same_point same_points same_told holds_each points_of examples ones digits exclusive values checked characters encoded values_of framed decoded is_fascn length_bytes read_length days_in exists is_date date_of two_digits month_number is_printed_date is_moment is_uuid is_policy is_text ended is_creator point_holds points_hold view_head fills whole extent record_head is_minutiae informed block_extent face_head is_facial date_holds marks_hold shape_holds iris_extent iris_head is_iris read_der head_of items walked block.next block.find block.signed_data block.content_info certificate rule_of element located parsed outcome sheet_of write_output fixed decimal hex2 hex_tag card_part element_lines element_count open_part report_text report_output viewed block_of signed_of are_entries same_tally same_row one over row_text last_text seen quick_row last_output
 all_tested_lem = refl
 
 pub examples-hold : All examples

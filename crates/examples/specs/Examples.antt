@@ -9,10 +9,8 @@ use Rattle.fascn.specs.declared.Numbers.{Numbers}
 use Rattle.lengths.specs.Length.{Spells}
 use Rattle.dates.specs.Date.{IsDate, InWindow}
 use Rattle.dates.specs.Printed.{IsPrintedDate}
-use Rattle.verdicts.specs.Verdicts.{number_of, found}
+use Rattle.verdicts.specs.Verdicts.{Tag, number_of, found}
 use Rattle.verdicts.specs.declared.Fault.{Fault}
-use Rattle.verdicts.specs.declared.Tag.{Tag}
-use Rattle.verdicts.specs.declared.Tag.TheVariants.{NoTag, Of}
 use Rattle.verdicts.specs.declared.Done.{Done}
 use Rattle.rules.specs.Rules.{application}
 use Rattle.container.specs.Container.{Values, container, Conforms}
@@ -30,6 +28,7 @@ use Rattle.summary.specs.declared.Tally.{Tally}
 use Rattle.summary.specs.declared.Rowed.{Rowed}
 use Rattle.prosianek.specs.Calls.{Checks, Writes, Reports, Lists, Points, Signers, Rows, Lasts}
 use Rattle.promises.specs.Demands.{sizes}
+use Rattle.std.specs.Prelude.{Some, None}
 
 -- ---- what a row of the table says
 
@@ -86,7 +85,7 @@ Holds (writes kind s room number place tag c) = (before after : List ℕ) (r : D
     → (r ≡ record { number = number; place = place; tag = tag; length = length c }) × (after ≡ filled c room)
 -- a report with a room of so many bytes, whatever they were, answers this number, no place and no tag, and leaves this text and zeros
 Holds (reports kind c room number text) = (before after : List ℕ) (r : Done) → length before ≡ room → Reports kind today c before after r
-    → (r ≡ record { number = number; place = 0; tag = NoTag; length = length text }) × (after ≡ filled text room)
+    → (r ≡ record { number = number; place = 0; tag = None; length = length text }) × (after ≡ filled text room)
 -- five lists of these lengths, whatever they held, answer this number, place and tag, and get the points of a first and of a second view, with their counts
 Holds (fills_lists c rooms number place tag first second) = (before after : Five) (r : Listed) → sizes before ≡ rooms → Lists today c before after r
     → (r ≡ record { verdict = record { number = number; place = place; tag = tag }; first = length first; second = length second }) × (after ≡ lists_of (first ++ second) before)
@@ -106,7 +105,7 @@ Holds (rows_as kind offset size c t room number line u) = (before after : List �
     → (r ≡ record { number = number; length = length line; tally = u }) × (after ≡ filled line room)
 -- the last lines in such a room
 Holds (lasts_as good agreement room number lines) = (before after : List ℕ) (r : Done) → length before ≡ room → Lasts good agreement before after r
-    → (r ≡ record { number = number; place = 0; tag = NoTag; length = length lines }) × (after ≡ filled lines room)
+    → (r ≡ record { number = number; place = 0; tag = None; length = length lines }) × (after ≡ filled lines room)
 
 abbrev pub All : List Example → Type 0
 All [] = Unit {0}
@@ -470,10 +469,10 @@ examples =
     ∷ late 20260301 20320302
     -- P13, P14
     ∷ conforms 3 (discovery 0x40)
-    ∷ breaks 3 (discovery 0x60) 20 15 (Of 0x5F2F)
+    ∷ breaks 3 (discovery 0x60) 20 15 (Some 0x5F2F)
     -- an empty container, and one without elements
-    ∷ breaks 2 [] 10 0 NoTag
-    ∷ breaks 2 (0x53 ∷ 0x00 ∷ []) 15 2 NoTag
+    ∷ breaks 2 [] 10 0 None
+    ∷ breaks 2 (0x53 ∷ 0x00 ∷ []) 15 2 None
     -- one conforming container of every kind; a CHUID with each optional element
     ∷ conforms 1 ccc
     ∷ conforms 2 chuid
@@ -483,81 +482,81 @@ examples =
     ∷ conforms 6 (fingers 0x64)
     ∷ conforms 7 (face 0x64)
     -- the quality is a signed byte; -1 is known in FINGERS and not in FACE
-    ∷ breaks 6 (fingers 0xFD) 21 3 (Of 0xBC)
+    ∷ breaks 6 (fingers 0xFD) 21 3 (Some 0xBC)
     ∷ conforms 6 (fingers 0xFE)
     ∷ conforms 6 (fingers 0xFF)
-    ∷ breaks 6 (fingers 0x65) 21 3 (Of 0xBC)
+    ∷ breaks 6 (fingers 0x65) 21 3 (Some 0xBC)
     ∷ conforms 7 (face 0xFE)
-    ∷ breaks 7 (face 0xFF) 21 3 (Of 0xBC)
+    ∷ breaks 7 (face 0xFF) 21 3 (Some 0xBC)
     -- bytes after the outer end; a byte 5F without 2F; FE missing at the end
-    ∷ breaks 5 (security ++ (0 ∷ [])) 12 0 NoTag
-    ∷ breaks 3 (0x7E ∷ 0x02 ∷ 0x5F ∷ 0x00 ∷ []) 13 2 (Of 0x5F)
-    ∷ breaks 5 (0x53 ∷ 0x04 ∷ 0xBA ∷ 0x00 ∷ 0xBB ∷ 0x00 ∷ []) 15 6 NoTag
+    ∷ breaks 5 (security ++ (0 ∷ [])) 12 0 None
+    ∷ breaks 3 (0x7E ∷ 0x02 ∷ 0x5F ∷ 0x00 ∷ []) 13 2 (Some 0x5F)
+    ∷ breaks 5 (0x53 ∷ 0x04 ∷ 0xBA ∷ 0x00 ∷ 0xBB ∷ 0x00 ∷ []) 15 6 None
     -- 2026-04: the least certificate, of each of the four kinds; no kind 13
     ∷ conforms 8 (certified 8 (three 0x30 null) 0x00 none)
     ∷ conforms 9 (certified 9 (three 0x30 null) 0x00 none)
     ∷ conforms 10 (certified 10 (three 0x30 null) 0x00 none)
     ∷ conforms 11 (certified 11 (three 0x30 null) 0x00 none)
-    ∷ breaks 13 (bare (three 0x30 null)) 1 0 NoTag
+    ∷ breaks 13 (bare (three 0x30 null)) 1 0 None
     -- an item at level 8, and at level 9; at level 9 half an item too
     ∷ conforms 8 (bare (three 0x30 (nested 6 null)))
-    ∷ breaks 8 (bare (three 0x30 (nested 7 null))) 25 2 (Of 0x70)
-    ∷ breaks 8 (bare (three 0x30 (nested 6 (item 0x30 (0x05 ∷ []))))) 25 2 (Of 0x70)
+    ∷ breaks 8 (bare (three 0x30 (nested 7 null))) 25 2 (Some 0x70)
+    ∷ breaks 8 (bare (three 0x30 (nested 6 (item 0x30 (0x05 ∷ []))))) 25 2 (Some 0x70)
     -- a tag of number 31; at level 9 the level comes first, and a bad item before it first of all
-    ∷ breaks 8 (bare (three 0x30 (item 0x1F []))) 24 2 (Of 0x70)
-    ∷ breaks 8 (bare (three 0x30 (nested 7 (item 0x1F [])))) 25 2 (Of 0x70)
-    ∷ breaks 8 (bare (item 0x30 (item 0x1F [] ++ (nested 7 null ++ null)))) 24 2 (Of 0x70)
+    ∷ breaks 8 (bare (three 0x30 (item 0x1F []))) 24 2 (Some 0x70)
+    ∷ breaks 8 (bare (three 0x30 (nested 7 (item 0x1F [])))) 25 2 (Some 0x70)
+    ∷ breaks 8 (bare (item 0x30 (item 0x1F [] ++ (nested 7 null ++ null)))) 24 2 (Some 0x70)
     -- a SET outside; two parts, and four; a fourth that is too deep: the three are judged last
-    ∷ breaks 8 (bare (three 0x31 null)) 24 2 (Of 0x70)
-    ∷ breaks 8 (bare (item 0x30 (null ++ null))) 24 2 (Of 0x70)
-    ∷ breaks 8 (bare (item 0x30 (null ++ (null ++ (null ++ null))))) 24 2 (Of 0x70)
-    ∷ breaks 8 (bare (item 0x30 (null ++ (null ++ (null ++ nested 7 null))))) 25 2 (Of 0x70)
+    ∷ breaks 8 (bare (three 0x31 null)) 24 2 (Some 0x70)
+    ∷ breaks 8 (bare (item 0x30 (null ++ null))) 24 2 (Some 0x70)
+    ∷ breaks 8 (bare (item 0x30 (null ++ (null ++ (null ++ null))))) 24 2 (Some 0x70)
+    ∷ breaks 8 (bare (item 0x30 (null ++ (null ++ (null ++ nested 7 null))))) 25 2 (Some 0x70)
     -- 127 as 81 7F; an indefinite length; a part that runs past its item; a byte behind the outermost item; no bytes at all
-    ∷ breaks 8 (bare (three 0x30 (0x04 ∷ 0x81 ∷ 0x7F ∷ replicate 100 0))) 24 2 (Of 0x70)
-    ∷ breaks 8 (bare (0x30 ∷ 0x80 ∷ (null ++ (null ++ (null ++ (0 ∷ 0 ∷ [])))))) 24 2 (Of 0x70)
-    ∷ breaks 8 (bare (three 0x30 (0x30 ∷ 0x02 ∷ 0x05 ∷ 0x04 ∷ []))) 24 2 (Of 0x70)
-    ∷ breaks 8 (bare (three 0x30 null ++ (0 ∷ []))) 24 2 (Of 0x70)
-    ∷ breaks 8 (bare []) 24 2 (Of 0x70)
+    ∷ breaks 8 (bare (three 0x30 (0x04 ∷ 0x81 ∷ 0x7F ∷ replicate 100 0))) 24 2 (Some 0x70)
+    ∷ breaks 8 (bare (0x30 ∷ 0x80 ∷ (null ++ (null ++ (null ++ (0 ∷ 0 ∷ [])))))) 24 2 (Some 0x70)
+    ∷ breaks 8 (bare (three 0x30 (0x30 ∷ 0x02 ∷ 0x05 ∷ 0x04 ∷ []))) 24 2 (Some 0x70)
+    ∷ breaks 8 (bare (three 0x30 null ++ (0 ∷ []))) 24 2 (Some 0x70)
+    ∷ breaks 8 (bare []) 24 2 (Some 0x70)
     -- 71 other than 00; 72 of 38 bytes, and of 39
-    ∷ breaks 9 (certified 9 (three 0x30 null) 0x01 none) 20 12 (Of 0x71)
+    ∷ breaks 9 (certified 9 (three 0x30 null) 0x01 none) 20 12 (Some 0x71)
     ∷ conforms 10 (certified 10 (three 0x30 null) 0x00 (some (replicate 38 0x41)))
-    ∷ breaks 10 (certified 10 (three 0x30 null) 0x00 (some (replicate 39 0x41))) 16 15 (Of 0x72)
+    ∷ breaks 10 (certified 10 (three 0x30 null) 0x00 (some (replicate 39 0x41))) 16 15 (Some 0x72)
     -- 2026-13: case R with a room that is just enough, with one byte more and one less, and with none: 3 beside a verdict of 0
-    ∷ checks 2 chuid 67 0 0 NoTag 0 chuid_sheet
-    ∷ checks 2 chuid 68 0 0 NoTag 0 chuid_sheet
-    ∷ checks 2 chuid 66 0 0 NoTag 3 []
-    ∷ checks 2 chuid 0 0 0 NoTag 3 []
+    ∷ checks 2 chuid 67 0 0 None 0 chuid_sheet
+    ∷ checks 2 chuid 68 0 0 None 0 chuid_sheet
+    ∷ checks 2 chuid 66 0 0 None 3 []
+    ∷ checks 2 chuid 0 0 0 None 3 []
     -- P13's two rows; P14, with no room, and with room for its sheet: no 3 beside a broken rule, and nothing is written
-    ∷ checks 3 (discovery 0x40) 17 0 0 NoTag 0 (0 ∷ 12 ∷ (application ++ (0 ∷ 3 ∷ 0x40 ∷ 0x00 ∷ [])))
-    ∷ checks 3 (discovery 0x60) 0 20 15 (Of 0x5F2F) 0 []
-    ∷ checks 3 (discovery 0x60) 17 20 15 (Of 0x5F2F) 0 []
+    ∷ checks 3 (discovery 0x40) 17 0 0 None 0 (0 ∷ 12 ∷ (application ++ (0 ∷ 3 ∷ 0x40 ∷ 0x00 ∷ [])))
+    ∷ checks 3 (discovery 0x60) 0 20 15 (Some 0x5F2F) 0 []
+    ∷ checks 3 (discovery 0x60) 17 20 15 (Some 0x5F2F) 0 []
     -- no such kind, and no container
-    ∷ checks 13 chuid 0 1 0 NoTag 0 []
-    ∷ checks 2 [] 67 10 0 NoTag 0 []
+    ∷ checks 13 chuid 0 1 0 None 0 []
+    ∷ checks 2 [] 67 10 0 None 0 []
     -- 2026-02: a broken FASC-N (P2) in the first element, and one that runs past the end; a repeated one, and one whose length is cut short
-    ∷ breaks 2 (chuid_of (element 0x30 (p1 0xEA))) 17 2 (Of 0x30)
-    ∷ breaks 2 (chuid_of (0x30 ∷ 26 ∷ p1 0xEB)) 12 2 (Of 0x30)
-    ∷ breaks 2 (chuid_of (element 0x30 (p1 0xEB) ++ element 0x30 (p1 0xEB))) 14 29 (Of 0x30)
-    ∷ breaks 2 (chuid_of (element 0x30 (p1 0xEB) ++ (0x34 ∷ 0x81 ∷ []))) 11 29 (Of 0x34)
+    ∷ breaks 2 (chuid_of (element 0x30 (p1 0xEA))) 17 2 (Some 0x30)
+    ∷ breaks 2 (chuid_of (0x30 ∷ 26 ∷ p1 0xEB)) 12 2 (Some 0x30)
+    ∷ breaks 2 (chuid_of (element 0x30 (p1 0xEB) ++ element 0x30 (p1 0xEB))) 14 29 (Some 0x30)
+    ∷ breaks 2 (chuid_of (element 0x30 (p1 0xEB) ++ (0x34 ∷ 0x81 ∷ []))) 11 29 (Some 0x34)
     -- 15: another element is found, and its tag is named, not that of the row passed over; a row is missing at the end, and there is none to name
-    ∷ breaks 2 (chuid_of (element 0x30 (p1 0xEB) ++ element 0x35 expiry)) 15 29 (Of 0x35)
-    ∷ breaks 2 (chuid_of (element 0x30 (p1 0xEB) ++ (element 0x34 uuid ++ (element 0x35 expiry ++ element 0x3E [])))) 15 59 NoTag
+    ∷ breaks 2 (chuid_of (element 0x30 (p1 0xEB) ++ element 0x35 expiry)) 15 29 (Some 0x35)
+    ∷ breaks 2 (chuid_of (element 0x30 (p1 0xEB) ++ (element 0x34 uuid ++ (element 0x35 expiry ++ element 0x3E [])))) 15 59 None
     -- 13 names the card's byte, 00 too; in DISCOVERY a 5F with another byte behind it, and with none
-    ∷ breaks 2 (chuid_of (element 0x30 (p1 0xEB) ++ element 0x00 [])) 13 29 (Of 0x00)
-    ∷ breaks 3 (0x7E ∷ 0x0F ∷ 0x4F ∷ 0x0B ∷ (application ++ (0x5F ∷ 0x2E ∷ []))) 13 15 (Of 0x5F)
-    ∷ breaks 3 (0x7E ∷ 0x0E ∷ 0x4F ∷ 0x0B ∷ (application ++ (0x5F ∷ []))) 13 15 (Of 0x5F)
+    ∷ breaks 2 (chuid_of (element 0x30 (p1 0xEB) ++ element 0x00 [])) 13 29 (Some 0x00)
+    ∷ breaks 3 (0x7E ∷ 0x0F ∷ 0x4F ∷ 0x0B ∷ (application ++ (0x5F ∷ 0x2E ∷ []))) 13 15 (Some 0x5F)
+    ∷ breaks 3 (0x7E ∷ 0x0E ∷ 0x4F ∷ 0x0B ∷ (application ++ (0x5F ∷ []))) 13 15 (Some 0x5F)
     -- outer faults name none, whatever byte stands there: another tag, a length in another form
-    ∷ breaks 2 (0x7E ∷ 0x00 ∷ []) 10 0 NoTag
-    ∷ breaks 2 (0x53 ∷ 0x80 ∷ []) 11 0 NoTag
+    ∷ breaks 2 (0x7E ∷ 0x00 ∷ []) 10 0 None
+    ∷ breaks 2 (0x53 ∷ 0x80 ∷ []) 11 0 None
     -- a sheet that is written names the row: the first mandatory one missing, FE missing, a UUID of fifteen bytes, a broken FASC-N, the policy of P14
-    ∷ writes 2 (replicate 18 0) 99 15 2 (Of 0x30) []
-    ∷ writes 2 (chuid_rows (p1 0xEB) uuid (0 ∷ 0 ∷ [])) 99 15 65 (Of 0xFE) []
-    ∷ writes 2 (chuid_rows (p1 0xEB) (replicate 15 0) (0 ∷ 1 ∷ [])) 99 16 33 (Of 0x34) []
-    ∷ writes 2 (chuid_rows (p1 0xEA) uuid (0 ∷ 1 ∷ [])) 99 17 2 (Of 0x30) []
-    ∷ writes 3 (0 ∷ 12 ∷ (application ++ (0 ∷ 3 ∷ 0x60 ∷ 0x00 ∷ []))) 20 20 13 (Of 0x5F2F) []
+    ∷ writes 2 (replicate 18 0) 99 15 2 (Some 0x30) []
+    ∷ writes 2 (chuid_rows (p1 0xEB) uuid (0 ∷ 0 ∷ [])) 99 15 65 (Some 0xFE) []
+    ∷ writes 2 (chuid_rows (p1 0xEB) (replicate 15 0) (0 ∷ 1 ∷ [])) 99 16 33 (Some 0x34) []
+    ∷ writes 2 (chuid_rows (p1 0xEA) uuid (0 ∷ 1 ∷ [])) 99 17 2 (Some 0x30) []
+    ∷ writes 3 (0 ∷ 12 ∷ (application ++ (0 ∷ 3 ∷ 0x60 ∷ 0x00 ∷ []))) 20 20 13 (Some 0x5F2F) []
     -- and none where no row is at fault: a sheet cut short, a room that is too small
-    ∷ writes 2 (chuid_rows (p1 0xEB) uuid (0 ∷ [])) 99 5 0 NoTag []
-    ∷ writes 2 chuid_sheet 60 3 0 NoTag []
+    ∷ writes 2 (chuid_rows (p1 0xEB) uuid (0 ∷ [])) 99 5 0 None []
+    ∷ writes 2 chuid_sheet 60 3 0 None []
     -- 2026-01: 127 in one byte alone; 200 in each form; 85 begins no length; the largest
     ∷ no_length (0x82 ∷ 0x00 ∷ 0x7F ∷ [])
     ∷ no_length (0x84 ∷ 0x00 ∷ 0x00 ∷ 0x00 ∷ 0x7F ∷ [])
@@ -571,19 +570,19 @@ examples =
     ∷ conforms 2 (signed (0x82 ∷ 0x01 ∷ 0x04 ∷ []) (0x81 ∷ 0xC8 ∷ []) 200)
     ∷ conforms 2 (signed (0x82 ∷ 0x01 ∷ 0x05 ∷ []) (0x82 ∷ 0x00 ∷ 0xC8 ∷ []) 200)
     ∷ conforms 2 (signed (0x83 ∷ 0x00 ∷ 0x01 ∷ 0x07 ∷ []) (0x84 ∷ 0x00 ∷ 0x00 ∷ 0x00 ∷ 0xC8 ∷ []) 200)
-    ∷ breaks 2 (signed (0x81 ∷ 0xBB ∷ []) (0x81 ∷ 0x7F ∷ []) 127) 11 58 (Of 0x3E)
+    ∷ breaks 2 (signed (0x81 ∷ 0xBB ∷ []) (0x81 ∷ 0x7F ∷ []) 127) 11 58 (Some 0x3E)
     ∷ conforms 2 (signed (0x81 ∷ 0xBC ∷ []) (0x81 ∷ 0x80 ∷ []) 128)
     -- the outer length too; bytes that are missing; a number that no container holds is 12, however large
-    ∷ breaks 2 (signed (0x81 ∷ 0x3B ∷ []) (0x00 ∷ []) 0) 11 0 NoTag
-    ∷ breaks 2 (signed (0x84 ∷ 0xFF ∷ 0xFF ∷ 0xFF ∷ 0xFF ∷ []) (0x00 ∷ []) 0) 12 0 NoTag
-    ∷ breaks 2 (0x53 ∷ 0x3B ∷ (up_to_3E ++ (0x3E ∷ 0x84 ∷ 0x00 ∷ 0x00 ∷ []))) 11 57 (Of 0x3E)
-    ∷ breaks 2 (signed (0x3E ∷ []) (0x83 ∷ 0x01 ∷ 0x00 ∷ 0x00 ∷ []) 0) 12 57 (Of 0x3E)
-    ∷ breaks 2 (signed (0x3F ∷ []) (0x84 ∷ 0xFF ∷ 0xFF ∷ 0xFF ∷ 0xFF ∷ []) 0) 12 57 (Of 0x3E)
+    ∷ breaks 2 (signed (0x81 ∷ 0x3B ∷ []) (0x00 ∷ []) 0) 11 0 None
+    ∷ breaks 2 (signed (0x84 ∷ 0xFF ∷ 0xFF ∷ 0xFF ∷ 0xFF ∷ []) (0x00 ∷ []) 0) 12 0 None
+    ∷ breaks 2 (0x53 ∷ 0x3B ∷ (up_to_3E ++ (0x3E ∷ 0x84 ∷ 0x00 ∷ 0x00 ∷ []))) 11 57 (Some 0x3E)
+    ∷ breaks 2 (signed (0x3E ∷ []) (0x83 ∷ 0x01 ∷ 0x00 ∷ 0x00 ∷ []) 0) 12 57 (Some 0x3E)
+    ∷ breaks 2 (signed (0x3F ∷ []) (0x84 ∷ 0xFF ∷ 0xFF ∷ 0xFF ∷ 0xFF ∷ []) 0) 12 57 (Some 0x3E)
     -- one sheet of the longest forms and of the fewest bytes, and it is written in the fewest; DER keeps them
-    ∷ checks 2 (signed (0x83 ∷ 0x00 ∷ 0x01 ∷ 0x07 ∷ []) (0x84 ∷ 0x00 ∷ 0x00 ∷ 0x00 ∷ 0xC8 ∷ []) 200) 267 0 0 NoTag 0 (signed_sheet 200)
-    ∷ writes 2 (signed_sheet 200) 264 0 0 NoTag (signed (0x82 ∷ 0x01 ∷ 0x04 ∷ []) (0x81 ∷ 0xC8 ∷ []) 200)
-    ∷ writes 2 (signed_sheet 200) 263 3 0 NoTag []
-    ∷ breaks 8 (bare (three 0x30 (0x04 ∷ 0x82 ∷ 0x00 ∷ 0x80 ∷ replicate 128 0))) 24 3 (Of 0x70)
+    ∷ checks 2 (signed (0x83 ∷ 0x00 ∷ 0x01 ∷ 0x07 ∷ []) (0x84 ∷ 0x00 ∷ 0x00 ∷ 0x00 ∷ 0xC8 ∷ []) 200) 267 0 0 None 0 (signed_sheet 200)
+    ∷ writes 2 (signed_sheet 200) 264 0 0 None (signed (0x82 ∷ 0x01 ∷ 0x04 ∷ []) (0x81 ∷ 0xC8 ∷ []) 200)
+    ∷ writes 2 (signed_sheet 200) 263 3 0 None []
+    ∷ breaks 8 (bare (three 0x30 (0x04 ∷ 0x82 ∷ 0x00 ∷ 0x80 ∷ replicate 128 0))) 24 3 (Some 0x70)
     -- 2026-03: the request's date; small letters, no such day, no such year, a letter for a digit, eight digits and a space; 29 February
     ∷ printed_date (ascii "2030JAN31")
     ∷ no_printed_date (ascii "2030jan31")
@@ -624,104 +623,104 @@ examples =
     ∷ no_printed_date (ascii "31JAN2030")
     ∷ no_printed_date (ascii "2030JAN00")
     -- in a container: no date is 19; eight characters, ten and none are 16, whatever they are; the date may lie in the past
-    ∷ breaks 4 (printed (ascii "2030jan31")) 19 6 (Of 0x04)
-    ∷ breaks 4 (printed (ascii "2030FEB30")) 19 6 (Of 0x04)
-    ∷ breaks 4 (printed (ascii "20300131 ")) 19 6 (Of 0x04)
-    ∷ breaks 4 (printed (ascii "20300131")) 16 6 (Of 0x04)
-    ∷ breaks 4 (printed (ascii "2030JAN310")) 16 6 (Of 0x04)
-    ∷ breaks 4 (printed []) 16 6 (Of 0x04)
+    ∷ breaks 4 (printed (ascii "2030jan31")) 19 6 (Some 0x04)
+    ∷ breaks 4 (printed (ascii "2030FEB30")) 19 6 (Some 0x04)
+    ∷ breaks 4 (printed (ascii "20300131 ")) 19 6 (Some 0x04)
+    ∷ breaks 4 (printed (ascii "20300131")) 16 6 (Some 0x04)
+    ∷ breaks 4 (printed (ascii "2030JAN310")) 16 6 (Some 0x04)
+    ∷ breaks 4 (printed []) 16 6 (Some 0x04)
     ∷ conforms 4 (printed (ascii "2000FEB29"))
     -- and in a sheet
-    ∷ checks 4 (printed (ascii "2030JAN31")) 40 0 0 NoTag 0 (printed_sheet (ascii "2030JAN31"))
-    ∷ writes 4 (printed_sheet (ascii "2030JAN31")) 38 0 0 NoTag (printed (ascii "2030JAN31"))
-    ∷ writes 4 (printed_sheet (ascii "2030FEB30")) 38 19 4 (Of 0x04) []
-    ∷ writes 4 (printed_sheet (ascii "20300131")) 38 16 4 (Of 0x04) []
+    ∷ checks 4 (printed (ascii "2030JAN31")) 40 0 0 None 0 (printed_sheet (ascii "2030JAN31"))
+    ∷ writes 4 (printed_sheet (ascii "2030JAN31")) 38 0 0 None (printed (ascii "2030JAN31"))
+    ∷ writes 4 (printed_sheet (ascii "2030FEB30")) 38 19 4 (Some 0x04) []
+    ∷ writes 4 (printed_sheet (ascii "20300131")) 38 16 4 (Some 0x04) []
     -- 2026-05: two images, the first with two feature points, the second without pixels; each field that 9.6 does not name at FF
     ∷ conforms 7 (recorded (portraits 100 2 (block 54 2 (replicate 16 0xDD) (about 1 0 1 2) (ascii "pixels") ++ block 32 0 [] (about 1 1 1 6) [])))
     ∷ conforms 7 (recorded (portraits 46 1 (0 ∷ 0 ∷ 0 ∷ 32 ∷ 0 ∷ 0 ∷ (replicate 14 0xFF ++ (1 ∷ 1 ∷ 0xFF ∷ 0xFF ∷ 0xFF ∷ 0xFF ∷ 1 ∷ 6 ∷ replicate 4 0xFF)))))
     -- another format, another version; a record length of one less and of one more; no image, and one less than there should be
-    ∷ breaks 7 (recorded (0x46 ∷ 0x41 ∷ 0x43 ∷ 0x20 ∷ 0x30 ∷ 0x31 ∷ 0x30 ∷ 0x00 ∷ 0 ∷ 0 ∷ 0 ∷ 46 ∷ 0 ∷ 1 ∷ block 32 0 [] (about 1 0 1 2) [])) 26 3 (Of 0xBC)
-    ∷ breaks 7 (recorded (0x46 ∷ 0x41 ∷ 0x43 ∷ 0x00 ∷ 0x30 ∷ 0x31 ∷ 0x30 ∷ 0x30 ∷ 0 ∷ 0 ∷ 0 ∷ 46 ∷ 0 ∷ 1 ∷ block 32 0 [] (about 1 0 1 2) [])) 26 3 (Of 0xBC)
-    ∷ breaks 7 (recorded (portrait 51 38 0 (about 1 0 1 2))) 26 3 (Of 0xBC)
-    ∷ breaks 7 (recorded (portrait 53 38 0 (about 1 0 1 2))) 26 3 (Of 0xBC)
-    ∷ breaks 7 (recorded (portraits 14 0 [])) 26 2 (Of 0xBC)
-    ∷ breaks 7 (recorded (portraits 46 2 (block 32 0 [] (about 1 0 1 2) []))) 26 3 (Of 0xBC)
+    ∷ breaks 7 (recorded (0x46 ∷ 0x41 ∷ 0x43 ∷ 0x20 ∷ 0x30 ∷ 0x31 ∷ 0x30 ∷ 0x00 ∷ 0 ∷ 0 ∷ 0 ∷ 46 ∷ 0 ∷ 1 ∷ block 32 0 [] (about 1 0 1 2) [])) 26 3 (Some 0xBC)
+    ∷ breaks 7 (recorded (0x46 ∷ 0x41 ∷ 0x43 ∷ 0x00 ∷ 0x30 ∷ 0x31 ∷ 0x30 ∷ 0x30 ∷ 0 ∷ 0 ∷ 0 ∷ 46 ∷ 0 ∷ 1 ∷ block 32 0 [] (about 1 0 1 2) [])) 26 3 (Some 0xBC)
+    ∷ breaks 7 (recorded (portrait 51 38 0 (about 1 0 1 2))) 26 3 (Some 0xBC)
+    ∷ breaks 7 (recorded (portrait 53 38 0 (about 1 0 1 2))) 26 3 (Some 0xBC)
+    ∷ breaks 7 (recorded (portraits 14 0 [])) 26 2 (Some 0xBC)
+    ∷ breaks 7 (recorded (portraits 46 2 (block 32 0 [] (about 1 0 1 2) []))) 26 3 (Some 0xBC)
     -- an image type 2, a data type 2, a colour space 0, a source type 3; the last in the second image alone
-    ∷ breaks 7 (recorded (portrait 52 38 0 (about 2 0 1 2))) 26 3 (Of 0xBC)
-    ∷ breaks 7 (recorded (portrait 52 38 0 (about 1 2 1 2))) 26 3 (Of 0xBC)
-    ∷ breaks 7 (recorded (portrait 52 38 0 (about 1 0 0 2))) 26 3 (Of 0xBC)
-    ∷ breaks 7 (recorded (portrait 52 38 0 (about 1 0 1 3))) 26 3 (Of 0xBC)
-    ∷ breaks 7 (recorded (portraits 78 2 (block 32 0 [] (about 1 0 1 2) [] ++ block 32 0 [] (about 1 0 1 3) []))) 26 3 (Of 0xBC)
+    ∷ breaks 7 (recorded (portrait 52 38 0 (about 2 0 1 2))) 26 3 (Some 0xBC)
+    ∷ breaks 7 (recorded (portrait 52 38 0 (about 1 2 1 2))) 26 3 (Some 0xBC)
+    ∷ breaks 7 (recorded (portrait 52 38 0 (about 1 0 0 2))) 26 3 (Some 0xBC)
+    ∷ breaks 7 (recorded (portrait 52 38 0 (about 1 0 1 3))) 26 3 (Some 0xBC)
+    ∷ breaks 7 (recorded (portraits 78 2 (block 32 0 [] (about 1 0 1 2) [] ++ block 32 0 [] (about 1 0 1 3) []))) 26 3 (Some 0xBC)
     -- a block one byte shorter than it is, and one longer; of 31 bytes; with more points than it has room for; a byte behind the last one
-    ∷ breaks 7 (recorded (portrait 52 37 0 (about 1 0 1 2))) 26 3 (Of 0xBC)
-    ∷ breaks 7 (recorded (portrait 52 39 0 (about 1 0 1 2))) 26 3 (Of 0xBC)
-    ∷ breaks 7 (recorded (portraits 45 1 (block 31 0 [] (1 ∷ 0 ∷ 1 ∷ 0 ∷ 1 ∷ 64 ∷ 1 ∷ 2 ∷ 0 ∷ 0 ∷ 0 ∷ []) []))) 26 3 (Of 0xBC)
-    ∷ breaks 7 (recorded (portrait 52 38 1 (about 1 0 1 2))) 26 3 (Of 0xBC)
-    ∷ breaks 7 (recorded (portraits 47 1 (block 32 0 [] (about 1 0 1 2) [] ++ (0 ∷ [])))) 26 3 (Of 0xBC)
+    ∷ breaks 7 (recorded (portrait 52 37 0 (about 1 0 1 2))) 26 3 (Some 0xBC)
+    ∷ breaks 7 (recorded (portrait 52 39 0 (about 1 0 1 2))) 26 3 (Some 0xBC)
+    ∷ breaks 7 (recorded (portraits 45 1 (block 31 0 [] (1 ∷ 0 ∷ 1 ∷ 0 ∷ 1 ∷ 64 ∷ 1 ∷ 2 ∷ 0 ∷ 0 ∷ 0 ∷ []) []))) 26 3 (Some 0xBC)
+    ∷ breaks 7 (recorded (portrait 52 38 1 (about 1 0 1 2))) 26 3 (Some 0xBC)
+    ∷ breaks 7 (recorded (portraits 47 1 (block 32 0 [] (about 1 0 1 2) [] ++ (0 ∷ [])))) 26 3 (Some 0xBC)
     -- a good header and rubbish after it; the quality, the FASC-N and the reserved bytes come before
-    ∷ breaks 7 (recorded (ascii "RUBBISH")) 26 2 (Of 0xBC)
-    ∷ breaks 7 (faced 0xFF cbeff_end (ascii "RUBBISH")) 21 2 (Of 0xBC)
-    ∷ breaks 7 (faced 0x64 (p1 0xEA ++ replicate 4 0) (ascii "RUBBISH")) 17 2 (Of 0xBC)
-    ∷ breaks 7 (faced 0x64 (p1 0xEB ++ (0 ∷ 0 ∷ 0 ∷ 1 ∷ [])) (ascii "RUBBISH")) 21 2 (Of 0xBC)
+    ∷ breaks 7 (recorded (ascii "RUBBISH")) 26 2 (Some 0xBC)
+    ∷ breaks 7 (faced 0xFF cbeff_end (ascii "RUBBISH")) 21 2 (Some 0xBC)
+    ∷ breaks 7 (faced 0x64 (p1 0xEA ++ replicate 4 0) (ascii "RUBBISH")) 17 2 (Some 0xBC)
+    ∷ breaks 7 (faced 0x64 (p1 0xEB ++ (0 ∷ 0 ∷ 0 ∷ 1 ∷ [])) (ascii "RUBBISH")) 21 2 (Some 0xBC)
     -- and in a sheet
-    ∷ writes 7 (0 ∷ 97 ∷ (face_value 0x64 cbeff_end (ascii "RUBBISH") ++ (0 ∷ 1 ∷ []))) 200 26 0 (Of 0xBC) []
+    ∷ writes 7 (0 ∷ 97 ∷ (face_value 0x64 cbeff_end (ascii "RUBBISH") ++ (0 ∷ 1 ∷ []))) 200 26 0 (Some 0xBC) []
     -- 2026-06: one representation, and two, the second with two quality blocks and an image
     ∷ conforms 12 (seen (iris_of 0))
     ∷ conforms 12 (seen (irises 133 2 1 (represented 52 march (0 ∷ []) (good 1) 0 ++ represented 65 march (2 ∷ replicate 10 0xCC) (good 2) 3)))
     -- number 2 alone, and 2 before 1; none, and three; fewer than there are, and more
-    ∷ breaks 12 (seen (iris_with march (good 2))) 27 3 (Of 0xBC)
-    ∷ breaks 12 (seen (irises 120 2 1 (represented 52 march (0 ∷ []) (good 2) 0 ++ represented 52 march (0 ∷ []) (good 1) 0))) 27 3 (Of 0xBC)
-    ∷ breaks 12 (seen (irises 16 0 1 [])) 27 2 (Of 0xBC)
-    ∷ breaks 12 (seen (irises 172 3 1 (represented 52 march (0 ∷ []) (good 1) 0 ++ (represented 52 march (0 ∷ []) (good 2) 0 ++ represented 52 march (0 ∷ []) (good 3) 0)))) 27 4 (Of 0xBC)
-    ∷ breaks 12 (seen (irises 120 1 1 (represented 52 march (0 ∷ []) (good 1) 0 ++ represented 52 march (0 ∷ []) (good 2) 0))) 27 3 (Of 0xBC)
-    ∷ breaks 12 (seen (irises 68 2 1 (represented 52 march (0 ∷ []) (good 1) 0))) 27 3 (Of 0xBC)
+    ∷ breaks 12 (seen (iris_with march (good 2))) 27 3 (Some 0xBC)
+    ∷ breaks 12 (seen (irises 120 2 1 (represented 52 march (0 ∷ []) (good 2) 0 ++ represented 52 march (0 ∷ []) (good 1) 0))) 27 3 (Some 0xBC)
+    ∷ breaks 12 (seen (irises 16 0 1 [])) 27 2 (Some 0xBC)
+    ∷ breaks 12 (seen (irises 172 3 1 (represented 52 march (0 ∷ []) (good 1) 0 ++ (represented 52 march (0 ∷ []) (good 2) 0 ++ represented 52 march (0 ∷ []) (good 3) 0)))) 27 4 (Some 0xBC)
+    ∷ breaks 12 (seen (irises 120 1 1 (represented 52 march (0 ∷ []) (good 1) 0 ++ represented 52 march (0 ∷ []) (good 2) 0))) 27 3 (Some 0xBC)
+    ∷ breaks 12 (seen (irises 68 2 1 (represented 52 march (0 ∷ []) (good 1) 0))) 27 3 (Some 0xBC)
     -- the width 287, 288 as above, 448 and 449, each with its centre
-    ∷ breaks 12 (seen (iris_with march (pictured 1 0x55 287 144 144))) 27 3 (Of 0xBC)
+    ∷ breaks 12 (seen (iris_with march (pictured 1 0x55 287 144 144))) 27 3 (Some 0xBC)
     ∷ conforms 12 (seen (iris_with march (pictured 1 0x55 448 224 225)))
-    ∷ breaks 12 (seen (iris_with march (pictured 1 0x55 449 225 225))) 27 3 (Of 0xBC)
+    ∷ breaks 12 (seen (iris_with march (pictured 1 0x55 449 225 225))) 27 3 (Some 0xBC)
     -- the centre of an odd width; one to the left and one to the right of it; by the even rule; the same of an even width, and by the odd rule
     ∷ conforms 12 (seen (iris_with march (pictured 1 0x55 289 145 145)))
-    ∷ breaks 12 (seen (iris_with march (pictured 1 0x55 289 144 144))) 27 3 (Of 0xBC)
-    ∷ breaks 12 (seen (iris_with march (pictured 1 0x55 289 146 146))) 27 3 (Of 0xBC)
-    ∷ breaks 12 (seen (iris_with march (pictured 1 0x55 289 144 145))) 27 3 (Of 0xBC)
-    ∷ breaks 12 (seen (iris_with march (pictured 1 0x55 288 143 144))) 27 3 (Of 0xBC)
-    ∷ breaks 12 (seen (iris_with march (pictured 1 0x55 288 145 146))) 27 3 (Of 0xBC)
-    ∷ breaks 12 (seen (iris_with march (pictured 1 0x55 288 144 144))) 27 3 (Of 0xBC)
+    ∷ breaks 12 (seen (iris_with march (pictured 1 0x55 289 144 144))) 27 3 (Some 0xBC)
+    ∷ breaks 12 (seen (iris_with march (pictured 1 0x55 289 146 146))) 27 3 (Some 0xBC)
+    ∷ breaks 12 (seen (iris_with march (pictured 1 0x55 289 144 145))) 27 3 (Some 0xBC)
+    ∷ breaks 12 (seen (iris_with march (pictured 1 0x55 288 143 144))) 27 3 (Some 0xBC)
+    ∷ breaks 12 (seen (iris_with march (pictured 1 0x55 288 145 146))) 27 3 (Some 0xBC)
+    ∷ breaks 12 (seen (iris_with march (pictured 1 0x55 288 144 144))) 27 3 (Some 0xBC)
     -- the last day of 2010, and the first of 2011; 30 February, and 29 February of a leap year
-    ∷ breaks 12 (seen (iris_with (captured 2010 12 31) (good 1))) 27 3 (Of 0xBC)
+    ∷ breaks 12 (seen (iris_with (captured 2010 12 31) (good 1))) 27 3 (Some 0xBC)
     ∷ conforms 12 (seen (iris_with (captured 2011 1 1) (good 1)))
-    ∷ breaks 12 (seen (iris_with (captured 2026 2 30) (good 1))) 27 3 (Of 0xBC)
+    ∷ breaks 12 (seen (iris_with (captured 2026 2 30) (good 1))) 27 3 (Some 0xBC)
     ∷ conforms 12 (seen (iris_with (captured 2028 2 29) (good 1)))
     -- the properties 5A, the largest, and 65; two eyes, and three
     ∷ conforms 12 (seen (iris_with march (pictured 1 0x5A 288 144 145)))
-    ∷ breaks 12 (seen (iris_with march (pictured 1 0x65 288 144 145))) 27 3 (Of 0xBC)
+    ∷ breaks 12 (seen (iris_with march (pictured 1 0x65 288 144 145))) 27 3 (Some 0xBC)
     ∷ conforms 12 (seen (irises 68 1 2 (represented 52 march (0 ∷ []) (good 1) 0)))
-    ∷ breaks 12 (seen (irises 68 1 3 (represented 52 march (0 ∷ []) (good 1) 0))) 27 3 (Of 0xBC)
+    ∷ breaks 12 (seen (irises 68 1 3 (represented 52 march (0 ∷ []) (good 1) 0))) 27 3 (Some 0xBC)
     -- a record length of one less and of one more; a representation's, likewise; a byte behind the last one
-    ∷ breaks 12 (seen (irises 67 1 1 (represented 52 march (0 ∷ []) (good 1) 0))) 27 3 (Of 0xBC)
-    ∷ breaks 12 (seen (irises 69 1 1 (represented 52 march (0 ∷ []) (good 1) 0))) 27 3 (Of 0xBC)
-    ∷ breaks 12 (seen (irises 68 1 1 (represented 51 march (0 ∷ []) (good 1) 0))) 27 3 (Of 0xBC)
-    ∷ breaks 12 (seen (irises 68 1 1 (represented 53 march (0 ∷ []) (good 1) 0))) 27 3 (Of 0xBC)
-    ∷ breaks 12 (seen (irises 69 1 1 (represented 52 march (0 ∷ []) (good 1) 0 ++ (0 ∷ [])))) 27 3 (Of 0xBC)
+    ∷ breaks 12 (seen (irises 67 1 1 (represented 52 march (0 ∷ []) (good 1) 0))) 27 3 (Some 0xBC)
+    ∷ breaks 12 (seen (irises 69 1 1 (represented 52 march (0 ∷ []) (good 1) 0))) 27 3 (Some 0xBC)
+    ∷ breaks 12 (seen (irises 68 1 1 (represented 51 march (0 ∷ []) (good 1) 0))) 27 3 (Some 0xBC)
+    ∷ breaks 12 (seen (irises 68 1 1 (represented 53 march (0 ∷ []) (good 1) 0))) 27 3 (Some 0xBC)
+    ∷ breaks 12 (seen (irises 69 1 1 (represented 52 march (0 ∷ []) (good 1) 0 ++ (0 ∷ [])))) 27 3 (Some 0xBC)
     -- 3,072 bytes with one representation, and 3,073; these with two
     ∷ conforms 12 (seen (iris_of 3004))
-    ∷ breaks 12 (seen (iris_of 3005)) 27 4 (Of 0xBC)
+    ∷ breaks 12 (seen (iris_of 3005)) 27 4 (Some 0xBC)
     ∷ conforms 12 (seen (irises 3073 2 1 (represented 52 march (0 ∷ []) (good 1) 0 ++ represented 3005 march (0 ∷ []) (good 2) 2953)))
     -- the quality is a signed byte, and -1 is known in IRIS; the owner of the format of fingers and face
-    ∷ breaks 12 (irised 0x0101 0xFD cbeff_end (iris_of 0)) 21 3 (Of 0xBC)
+    ∷ breaks 12 (irised 0x0101 0xFD cbeff_end (iris_of 0)) 21 3 (Some 0xBC)
     ∷ conforms 12 (irised 0x0101 0xFE cbeff_end (iris_of 0))
     ∷ conforms 12 (irised 0x0101 0xFF cbeff_end (iris_of 0))
-    ∷ breaks 12 (irised 0x0101 0x65 cbeff_end (iris_of 0)) 21 3 (Of 0xBC)
-    ∷ breaks 12 (irised 0x001B 0x64 cbeff_end (iris_of 0)) 21 3 (Of 0xBC)
+    ∷ breaks 12 (irised 0x0101 0x65 cbeff_end (iris_of 0)) 21 3 (Some 0xBC)
+    ∷ breaks 12 (irised 0x001B 0x64 cbeff_end (iris_of 0)) 21 3 (Some 0xBC)
     -- a good header and rubbish after it; the quality, the FASC-N and the reserved bytes come before
-    ∷ breaks 12 (seen (ascii "RUBBISH")) 27 2 (Of 0xBC)
-    ∷ breaks 12 (irised 0x0101 0xFD cbeff_end (ascii "RUBBISH")) 21 2 (Of 0xBC)
-    ∷ breaks 12 (irised 0x0101 0x64 (p1 0xEA ++ replicate 4 0) (ascii "RUBBISH")) 17 2 (Of 0xBC)
-    ∷ breaks 12 (irised 0x0101 0x64 (p1 0xEB ++ (0 ∷ 0 ∷ 0 ∷ 1 ∷ [])) (ascii "RUBBISH")) 21 2 (Of 0xBC)
+    ∷ breaks 12 (seen (ascii "RUBBISH")) 27 2 (Some 0xBC)
+    ∷ breaks 12 (irised 0x0101 0xFD cbeff_end (ascii "RUBBISH")) 21 2 (Some 0xBC)
+    ∷ breaks 12 (irised 0x0101 0x64 (p1 0xEA ++ replicate 4 0) (ascii "RUBBISH")) 17 2 (Some 0xBC)
+    ∷ breaks 12 (irised 0x0101 0x64 (p1 0xEB ++ (0 ∷ 0 ∷ 0 ∷ 1 ∷ [])) (ascii "RUBBISH")) 21 2 (Some 0xBC)
     -- an iris is no face, and a face no iris; and in a sheet
-    ∷ breaks 7 (seen (iris_of 0)) 21 3 (Of 0xBC)
-    ∷ breaks 12 (face 0x64) 21 3 (Of 0xBC)
-    ∷ writes 12 (0 ∷ 97 ∷ (iris_value 0x0101 0x64 cbeff_end (ascii "RUBBISH") ++ (0 ∷ 1 ∷ []))) 200 27 0 (Of 0xBC) []
+    ∷ breaks 7 (seen (iris_of 0)) 21 3 (Some 0xBC)
+    ∷ breaks 12 (face 0x64) 21 3 (Some 0xBC)
+    ∷ writes 12 (0 ∷ 97 ∷ (iris_value 0x0101 0x64 cbeff_end (ascii "RUBBISH") ++ (0 ∷ 1 ∷ []))) 200 27 0 (Some 0xBC) []
     -- 2026-12: case R with a room of 512 bytes, and of 511; 1 comes before 3, and 3 before 4
     ∷ reports 2 chuid 512 0 (ascii "CARD 4\nkind CHUID\nbytes 61\ntoday 20260301\nverdict 0 0 --\nELEMENTS 5\n30 25\n34 16\n35 8\n3E 0\nFE 0\nOPEN 3\nagency 1234\nsystem 0001\nexpires 20300131\n")
     ∷ reports 2 chuid 511 3 []
@@ -741,62 +740,62 @@ examples =
     ∷ reports 12 (longest_card 12) 512 0 (ascii "CARD 4\nkind IRIS\nbytes 10166\ntoday 20260301\nverdict 0 0 --\nELEMENTS 2\nBC 10156\nFE 0\nOPEN 2\nagency 1234\nsystem 0001\n")
     ∷ reports 11 unended 512 0 (ascii "CARD 4\nkind CARDAUTH\nbytes 10023\ntoday 20260301\nverdict 15 10023 --\nELEMENTS 0\nOPEN 0\n")
     -- 2026-10: two points and one, in lists that are just long enough, and in lists of different lengths; with each of the five one too short
-    ∷ fills_lists two_and_one (3 ∷ 3 ∷ 3 ∷ 3 ∷ 3 ∷ []) 0 0 NoTag (a5 ∷ b5 ∷ []) (z5 ∷ [])
-    ∷ fills_lists two_and_one (3 ∷ 4 ∷ 3 ∷ 5 ∷ 3 ∷ []) 0 0 NoTag (a5 ∷ b5 ∷ []) (z5 ∷ [])
-    ∷ fills_lists two_and_one (2 ∷ 4 ∷ 3 ∷ 5 ∷ 3 ∷ []) 3 0 NoTag [] []
-    ∷ fills_lists two_and_one (3 ∷ 2 ∷ 3 ∷ 5 ∷ 3 ∷ []) 3 0 NoTag [] []
-    ∷ fills_lists two_and_one (3 ∷ 4 ∷ 2 ∷ 5 ∷ 3 ∷ []) 3 0 NoTag [] []
-    ∷ fills_lists two_and_one (3 ∷ 4 ∷ 3 ∷ 2 ∷ 3 ∷ []) 3 0 NoTag [] []
-    ∷ fills_lists two_and_one (3 ∷ 4 ∷ 3 ∷ 5 ∷ 2 ∷ []) 3 0 NoTag [] []
+    ∷ fills_lists two_and_one (3 ∷ 3 ∷ 3 ∷ 3 ∷ 3 ∷ []) 0 0 None (a5 ∷ b5 ∷ []) (z5 ∷ [])
+    ∷ fills_lists two_and_one (3 ∷ 4 ∷ 3 ∷ 5 ∷ 3 ∷ []) 0 0 None (a5 ∷ b5 ∷ []) (z5 ∷ [])
+    ∷ fills_lists two_and_one (2 ∷ 4 ∷ 3 ∷ 5 ∷ 3 ∷ []) 3 0 None [] []
+    ∷ fills_lists two_and_one (3 ∷ 2 ∷ 3 ∷ 5 ∷ 3 ∷ []) 3 0 None [] []
+    ∷ fills_lists two_and_one (3 ∷ 4 ∷ 2 ∷ 5 ∷ 3 ∷ []) 3 0 None [] []
+    ∷ fills_lists two_and_one (3 ∷ 4 ∷ 3 ∷ 2 ∷ 3 ∷ []) 3 0 None [] []
+    ∷ fills_lists two_and_one (3 ∷ 4 ∷ 3 ∷ 5 ∷ 2 ∷ []) 3 0 None [] []
     -- in a list of points: just long enough, longer, one too short, empty
-    ∷ fills_points two_and_one 3 0 0 NoTag (a5 ∷ b5 ∷ []) (z5 ∷ [])
-    ∷ fills_points two_and_one 5 0 0 NoTag (a5 ∷ b5 ∷ []) (z5 ∷ [])
-    ∷ fills_points two_and_one 2 3 0 NoTag [] []
-    ∷ fills_points two_and_one 0 3 0 NoTag [] []
+    ∷ fills_points two_and_one 3 0 0 None (a5 ∷ b5 ∷ []) (z5 ∷ [])
+    ∷ fills_points two_and_one 5 0 0 None (a5 ∷ b5 ∷ []) (z5 ∷ [])
+    ∷ fills_points two_and_one 2 3 0 None [] []
+    ∷ fills_points two_and_one 0 3 0 None [] []
     -- no points fit empty lists; 128 and 128 fit 256 entries, and not 255
-    ∷ fills_lists no_points (0 ∷ 0 ∷ 0 ∷ 0 ∷ 0 ∷ []) 0 0 NoTag [] []
-    ∷ fills_points no_points 0 0 0 NoTag [] []
-    ∷ fills_points no_points 1 0 0 NoTag [] []
-    ∷ fills_lists most_points (256 ∷ 256 ∷ 256 ∷ 256 ∷ 256 ∷ []) 0 0 NoTag (replicate 128 a5) (replicate 128 b5)
-    ∷ fills_points most_points 256 0 0 NoTag (replicate 128 a5) (replicate 128 b5)
-    ∷ fills_points most_points 255 3 0 NoTag [] []
+    ∷ fills_lists no_points (0 ∷ 0 ∷ 0 ∷ 0 ∷ 0 ∷ []) 0 0 None [] []
+    ∷ fills_points no_points 0 0 0 None [] []
+    ∷ fills_points no_points 1 0 0 None [] []
+    ∷ fills_lists most_points (256 ∷ 256 ∷ 256 ∷ 256 ∷ 256 ∷ []) 0 0 None (replicate 128 a5) (replicate 128 b5)
+    ∷ fills_points most_points 256 0 0 None (replicate 128 a5) (replicate 128 b5)
+    ∷ fills_points most_points 255 3 0 None [] []
     -- a broken rule comes before 3, and where there is room; a face, and no bytes, as FINGERS
-    ∷ fills_points type_three 0 22 3 (Of 0xBC) [] []
-    ∷ fills_points type_three 1 22 3 (Of 0xBC) [] []
-    ∷ fills_lists type_three (0 ∷ 1 ∷ 1 ∷ 1 ∷ 1 ∷ []) 22 3 (Of 0xBC) [] []
-    ∷ fills_points (face 0x64) 9 21 3 (Of 0xBC) [] []
-    ∷ fills_points [] 9 10 0 NoTag [] []
+    ∷ fills_points type_three 0 22 3 (Some 0xBC) [] []
+    ∷ fills_points type_three 1 22 3 (Some 0xBC) [] []
+    ∷ fills_lists type_three (0 ∷ 1 ∷ 1 ∷ 1 ∷ 1 ∷ []) 22 3 (Some 0xBC) [] []
+    ∷ fills_points (face 0x64) 9 21 3 (Some 0xBC) [] []
+    ∷ fills_points [] 9 10 0 None [] []
     -- 2026-11: the first item of the biometric's field; whatever 3E is; also in a container in longer forms
-    ∷ signs 6 chuid_C8 fingers_C9 0 0 NoTag 2 161 c9
-    ∷ signs 6 (chuid_with (ascii "X")) fingers_C9 0 0 NoTag 2 161 c9
-    ∷ signs 6 chuid_C8 (0x53 ∷ 0x82 ∷ 0x00 ∷ drop 2 fingers_C9) 0 0 NoTag 2 162 c9
+    ∷ signs 6 chuid_C8 fingers_C9 0 0 None 2 161 c9
+    ∷ signs 6 (chuid_with (ascii "X")) fingers_C9 0 0 None 2 161 c9
+    ∷ signs 6 chuid_C8 (0x53 ∷ 0x82 ∷ 0x00 ∷ drop 2 fingers_C9) 0 0 None 2 162 c9
     -- the biometric's block has no field, or an empty one: the CHUID's
-    ∷ signs 6 chuid_C8 fingers_none 0 0 NoTag 1 88 c8
-    ∷ signs 6 chuid_C8 (fingers_with (p1 0xEB) (cms (item 0xA0 [] ++ item 0xA1 []))) 0 0 NoTag 1 88 c8
+    ∷ signs 6 chuid_C8 fingers_none 0 0 None 1 88 c8
+    ∷ signs 6 chuid_C8 (fingers_with (p1 0xEB) (cms (item 0xA0 [] ++ item 0xA1 []))) 0 0 None 1 88 c8
     -- the first item may have any tag; FACE and IRIS too
-    ∷ signs 6 chuid_C8 (fingers_with (p1 0xEB) (cms (item 0xA0 (item 0x02 (1 ∷ []) ++ c8)))) 0 0 NoTag 2 161 (item 0x02 (1 ∷ []))
-    ∷ signs 7 chuid_C8 (face_with (cms (item 0xA0 c8 ++ item 0xA1 null))) 0 0 NoTag 2 175 c8
-    ∷ signs 12 chuid_C8 (iris_signed (cms (item 0xA0 c8))) 0 0 NoTag 2 191 c8
+    ∷ signs 6 chuid_C8 (fingers_with (p1 0xEB) (cms (item 0xA0 (item 0x02 (1 ∷ []) ++ c8)))) 0 0 None 2 161 (item 0x02 (1 ∷ []))
+    ∷ signs 7 chuid_C8 (face_with (cms (item 0xA0 c8 ++ item 0xA1 null))) 0 0 None 2 175 c8
+    ∷ signs 12 chuid_C8 (iris_signed (cms (item 0xA0 c8))) 0 0 None 2 191 c8
     -- sixteen levels, and seventeen
-    ∷ signs 6 chuid_C8 (fingers_with (p1 0xEB) (block_of 0x02 (three_parts ++ (item 0xA0 c8 ++ item 0x31 (nested 11 null))))) 0 0 NoTag 2 161 c8
-    ∷ signs 6 chuid_C8 (fingers_with (p1 0xEB) (block_of 0x02 (three_parts ++ (item 0xA0 c8 ++ item 0x31 (nested 12 null))))) 29 0 NoTag 0 0 []
+    ∷ signs 6 chuid_C8 (fingers_with (p1 0xEB) (block_of 0x02 (three_parts ++ (item 0xA0 c8 ++ item 0x31 (nested 11 null))))) 0 0 None 2 161 c8
+    ∷ signs 6 chuid_C8 (fingers_with (p1 0xEB) (block_of 0x02 (three_parts ++ (item 0xA0 c8 ++ item 0x31 (nested 12 null))))) 29 0 None 0 0 []
     -- 31, and 30: an empty 3E, and a byte behind its one item
-    ∷ signs 6 (chuid_with (cms [])) fingers_none 31 0 NoTag 0 0 []
-    ∷ signs 6 (chuid_with []) fingers_none 30 0 NoTag 0 0 []
-    ∷ signs 6 (chuid_with (cms (item 0xA0 c8) ++ (0 ∷ []))) fingers_none 30 0 NoTag 0 0 []
+    ∷ signs 6 (chuid_with (cms [])) fingers_none 31 0 None 0 0 []
+    ∷ signs 6 (chuid_with []) fingers_none 30 0 None 0 0 []
+    ∷ signs 6 (chuid_with (cms (item 0xA0 c8) ++ (0 ∷ []))) fingers_none 30 0 None 0 0 []
     -- 29, though the CHUID has one: no item; another object identifier; crls before certificates; no signerInfos; a part behind them; no version; an indefinite length
-    ∷ signs 6 chuid_C8 (fingers_with (p1 0xEB) (ascii "SIG")) 29 0 NoTag 0 0 []
-    ∷ signs 6 chuid_C8 (fingers_with (p1 0xEB) (block_of 0x01 (three_parts ++ (item 0xA0 c8 ++ item 0x31 [])))) 29 0 NoTag 0 0 []
-    ∷ signs 6 chuid_C8 (fingers_with (p1 0xEB) (cms (item 0xA1 [] ++ item 0xA0 c8))) 29 0 NoTag 0 0 []
-    ∷ signs 6 chuid_C8 (fingers_with (p1 0xEB) (block_of 0x02 (three_parts ++ item 0xA0 c8))) 29 0 NoTag 0 0 []
-    ∷ signs 6 chuid_C8 (fingers_with (p1 0xEB) (block_of 0x02 (three_parts ++ (item 0x31 [] ++ null)))) 29 0 NoTag 0 0 []
-    ∷ signs 6 chuid_C8 (fingers_with (p1 0xEB) (block_of 0x02 (drop 3 three_parts ++ item 0x31 []))) 29 0 NoTag 0 0 []
-    ∷ signs 6 chuid_C8 (fingers_with (p1 0xEB) (0x30 ∷ 0x80 ∷ (drop 2 (cms []) ++ (0 ∷ 0 ∷ [])))) 29 0 NoTag 0 0 []
+    ∷ signs 6 chuid_C8 (fingers_with (p1 0xEB) (ascii "SIG")) 29 0 None 0 0 []
+    ∷ signs 6 chuid_C8 (fingers_with (p1 0xEB) (block_of 0x01 (three_parts ++ (item 0xA0 c8 ++ item 0x31 [])))) 29 0 None 0 0 []
+    ∷ signs 6 chuid_C8 (fingers_with (p1 0xEB) (cms (item 0xA1 [] ++ item 0xA0 c8))) 29 0 None 0 0 []
+    ∷ signs 6 chuid_C8 (fingers_with (p1 0xEB) (block_of 0x02 (three_parts ++ item 0xA0 c8))) 29 0 None 0 0 []
+    ∷ signs 6 chuid_C8 (fingers_with (p1 0xEB) (block_of 0x02 (three_parts ++ (item 0x31 [] ++ null)))) 29 0 None 0 0 []
+    ∷ signs 6 chuid_C8 (fingers_with (p1 0xEB) (block_of 0x02 (drop 3 three_parts ++ item 0x31 []))) 29 0 None 0 0 []
+    ∷ signs 6 chuid_C8 (fingers_with (p1 0xEB) (0x30 ∷ 0x80 ∷ (drop 2 (cms []) ++ (0 ∷ 0 ∷ [])))) 29 0 None 0 0 []
     -- 28 comes before 29; the checks before that, the CHUID's first; 1 before all
-    ∷ signs 6 chuid_C8 (fingers_with p8 (ascii "SIG")) 28 0 NoTag 0 0 []
-    ∷ signs 6 chuid_C8 (face 0x64) 21 3 (Of 0xBC) 2 0 []
-    ∷ signs 6 (chuid_of (element 0x30 (p1 0xEB) ++ element 0x34 (replicate 16 0))) (face 0x64) 18 29 (Of 0x34) 1 0 []
-    ∷ signs 2 [] chuid_C8 1 0 NoTag 0 0 []
+    ∷ signs 6 chuid_C8 (fingers_with p8 (ascii "SIG")) 28 0 None 0 0 []
+    ∷ signs 6 chuid_C8 (face 0x64) 21 3 (Some 0xBC) 2 0 []
+    ∷ signs 6 (chuid_of (element 0x30 (p1 0xEB) ++ element 0x34 (replicate 16 0))) (face 0x64) 18 29 (Some 0x34) 1 0 []
+    ∷ signs 2 [] chuid_C8 1 0 None 0 0 []
     -- 2026-14. No entry, one, and 256, each without a byte; 257; no count, half a count
     ∷ folder_of (0 ∷ 0 ∷ [])
     ∷ folder_of (0 ∷ 1 ∷ 2 ∷ 0 ∷ 0 ∷ 0 ∷ 0 ∷ [])
@@ -852,6 +851,6 @@ examples =
     ∷ no_fascn (p1 0xD4)
     ∷ spans 1 199 (p1 0xEB) (p1 0xEA)
     -- nor is it in a CHUID or in a header
-    ∷ breaks 2 (chuid_for p1_smeared) 17 2 (Of 0x30)
-    ∷ breaks 6 (fingers_with p1_smeared (ascii "SIG")) 17 3 (Of 0xBC)
+    ∷ breaks 2 (chuid_for p1_smeared) 17 2 (Some 0x30)
+    ∷ breaks 6 (fingers_with p1_smeared (ascii "SIG")) 17 3 (Some 0xBC)
     ∷ []

@@ -1,6 +1,6 @@
 -- The tested form is true exactly where the record's table is laid out. Assumes nothing.
 use Prim.Native.Nat.{ℕ, ◌+◌, ◌-◌, ◌*◌, ◌≤◌}
-use mathlib.Core.Path.{◌≡◌, sym, ap}
+use mathlib.Core.Path.{◌≡◌, ap}
 use mathlib.Core.Logic.{◌↔◌}
 use mathlib.Core.Bool.{Bool, true, cond, ◌&&◌}
 use mathlib.Core.List.{List}
@@ -15,13 +15,12 @@ use Rattle.laws.specs.Layout.{field}
 use Rattle.laws.specs.Format.{Format, end, breaks, free, times}
 use Rattle.laws.proofs.Cases.{and-true, and_is}
 use Rattle.laws.proofs.Formats.{skim, cond-and}
-use Rattle.records.specs.declared.Extent.TheVariants.{Takes}
+use Rattle.std.specs.Prelude.{Some}
 use Rattle.records.proofs.Exact.{Extends, whole-exact}
 use Rattle.facial.specs.Facial.{information, block, facial, IsFacial}
 use Rattle.facial.specs.Judged.{informed, extent, record_head, is_facial}
 use Rattle.facial.proofs.Agreed.{facial-agrees}
 use Rattle.facial.proofs.Told.{block-told}
-use Rattle.facial.proofs.Ways.{takes}
 
 information-judged : (k : Format (Unit {0})) (at : ℕ) (d : List ℕ) → skim (information k) at d ≡ cond (informed (drop at d)) (skim k (at + 12) d) (breaks tt)
 unfolding informed
@@ -55,10 +54,15 @@ block-judged k at d =
     simp (a, w, cond-and)
     (ap (λ j. cond (leb (32 + p) (said at d)) j (breaks tt)) (information-judged (free (said at d - (32 + p)) k) (at + (20 + p)) d))
 
+takes : (s : List ℕ) (size p : ℕ) → size ≡ field s 0 4 → p ≡ field s 4 2 → 32 + 8 * p ≤ size → size ≤ length s → informed (drop (20 + 8 * p) s) ≡ true
+    → extent s ≡ Some size
+unfolding extent
+takes s size p e f r w i = rw (le-leb 32 (length s) (omega arith), ← e, ← f, le-leb _ _ r, le-leb _ _ w, i)
+
 blocks : Extends block extent
 blocks = record { test = blocked; size = size; judged = block-judged; told = told; tells = tells }
   where
-    told : (at : ℕ) (d : List ℕ) (n : ℕ) → extent (drop at d) ≡ Takes n → (blocked at d ≡ true) × (n ≡ size at d)
+    told : (at : ℕ) (d : List ℕ) (n : ℕ) → extent (drop at d) ≡ Some n → (blocked at d ≡ true) × (n ≡ size at d)
     told at d n e =
         let t = block-told (drop at d) e in
         let q : field (drop at d) 0 4 ≡ said at d = simp (drop-drop, add-zero) in
@@ -67,7 +71,7 @@ blocks = record { test = blocked; size = size; judged = block-judged; told = tol
         let room : 32 + 8 * points at d ≤ n = rw p at t.room in
         (and_is _ _ (le-leb _ _ (rw s at room)) (rw (p, drop-drop) at t.image), omega arith)
 
-    tells : (at : ℕ) (d : List ℕ) → blocked at d ≡ true → at + size at d ≤ length d → extent (drop at d) ≡ Takes (size at d)
+    tells : (at : ℕ) (d : List ℕ) → blocked at d ≡ true → at + size at d ≤ length d → extent (drop at d) ≡ Some (size at d)
     tells at d e i =
         let b = and-true (leb (32 + 8 * points at d) (said at d)) _ e in
         let room : 32 + 8 * points at d ≤ said at d = leb-true _ _ b.0 in
@@ -75,7 +79,7 @@ blocks = record { test = blocked; size = size; judged = block-judged; told = tol
         let l : said at d ≤ length (drop at d) = rw length-drop (omega arith) in
         let q : said at d ≡ field (drop at d) 0 4 = simp (drop-drop, add-zero) in
         let p : points at d ≡ field (drop at d) 4 2 = simp drop-drop in
-        rw s (sym (takes (drop at d) (omega arith) (said at d) (points at d) q p room l (rw drop-drop (sym b.1))))
+        rw s (takes (drop at d) (said at d) (points at d) q p room l (rw drop-drop b.1))
 
 record-judged : (d : List ℕ) → skim (facial (length d)) 0 d ≡ cond (record_head (field d 12 2) d) (skim (times (field d 12 2) block (end tt)) 14 d) (breaks tt)
 unfolding record_head

@@ -1,4 +1,3 @@
-pub mod Ways
 pub mod Told
 pub mod Agreed
 pub mod Exact

@@ -4,8 +4,7 @@ use Rattle.laws.specs.Layout.{field}
 use Rattle.laws.specs.Format.{◌or◌}
 use Rattle.laws.specs.Tests.{all}
 use Rattle.records.specs.Fills.{whole}
-use Rattle.records.specs.declared.Extent.{Extent}
-use Rattle.records.specs.declared.Extent.TheVariants.{Takes, None}
+use Rattle.std.specs.Prelude.{Option, Some, None}
 
 -- an image's information
 abbrev pub information_tests : List ℕ → List Bool
@@ -18,10 +17,10 @@ informed s = all (information_tests s)
 abbrev pub block_tests : ℕ → ℕ → List ℕ → List Bool
 block_tests size p s = leb (32 + 8 * p) size ∷ leb size (length s) ∷ informed (drop (20 + 8 * p) s) ∷ []
 
-abbrev pub sized : ℕ → ℕ → List ℕ → Extent
-sized size p s = cond (all (block_tests size p s)) (Takes size) None
+abbrev pub sized : ℕ → ℕ → List ℕ → Option ℕ
+sized size p s = cond (all (block_tests size p s)) (Some size) None
 
-unfoldable pub extent : List ℕ → Extent
+unfoldable pub extent : List ℕ → Option ℕ
 extent s = cond (leb 32 (length s)) (sized (field s 0 4) (field s 4 2) s) None
 
 -- the record, with so many images

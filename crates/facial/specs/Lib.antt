@@ -1,2 +1,3 @@
 pub mod Facial
 pub mod Judged
+pub mod Within

@@ -2,13 +2,14 @@
 #![tactic(auto)]
 
 ghost use Rattle.std.specs.Prelude.{◌≡◌, ◌≤◌, length};
-ghost use Rattle.records.specs.Fills.{fills};
 ghost use Rattle.facial.specs.Judged.{informed, extent, record_head, is_facial};
+ghost use Rattle.facial.specs.Within.{block_within};
 
 use numbers::number;
-use records::{Extent, is_either};
+use records::{Parts, is_either};
 
 // "Facial Image Type is 1", "Image Data Type is 0 or 1", "Image Color Space is 1", "Source Type is 2 or 6"
+#[tactic(auto, unfolding(crate::specs::Judged::informed))]
 fn information(s: &[u8]) -> bool
     requires { 12 ≤ length s.now }
     ensures { result ≡ informed s.now }
@@ -20,45 +21,35 @@ fn information(s: &[u8]) -> bool
 }
 
 // The block that stands at the front: it has at least 32 bytes and 8 for each feature point, and lies within the record.
-fn block(s: &[u8]) -> Extent
+#[tactic(auto, unfolding(crate::specs::Judged::extent))]
+fn block(s: &[u8]) -> Option<usize>
     ensures { result ≡ extent s.now }
 {
     if s.len() < 32 {
-        return Extent::None;
+        return None;
     }
     let size = number(s, 0, 4) as usize;
     let points = 8 * number(s, 4, 2) as usize;
-    if size < 32 + points {
-        return Extent::None;
-    }
-    if s.len() < size {
-        return Extent::None;
-    }
-    if !information(&s[20 + points..]) {
-        return Extent::None;
-    }
-    Extent::Takes(size)
+    let kept = 32 + points <= size && size <= s.len() && information(&s[20 + points..]);
+    kept.then_some(size)
 }
 
-// So many blocks behind the header, and nothing after them.
-fn images(d: &[u8], count: usize) -> bool
-    requires { 14 ≤ length d.now }
-    ensures { result ≡ fills (λ more. extent) count 14 d.now }
-{
-    let mut at: usize = 14;
-    let mut left = count;
-    while 0 < left {
-        let Extent::Takes(size) = block(&d[at..]) else {
-            return false;
-        };
-        at += size;
-        left -= 1;
+// Images, one behind the other: each is a block.
+struct Images;
+
+impl Parts for Images {
+    ghost told = { λ _ _. extent };
+
+    ghost inside = { λ _ _. block_within };
+
+    fn extent(&self, _more: usize, s: &[u8]) -> Option<usize> {
+        block(s)
     }
-    at == d.len()
 }
 
 // "Format Identifier has a value 0x46414300", "Version Number has a value of 0x30313000", the record length, and "Number of
 // Facial Images value is ≥ 1". That number is handed in, since the images are counted by it too.
+#[tactic(auto, unfolding(crate::specs::Judged::record_head))]
 fn record_head(d: &[u8], count: usize) -> bool
     requires { 14 ≤ length d.now }
     ensures { result ≡ record_head count d.now }
@@ -70,6 +61,7 @@ fn record_head(d: &[u8], count: usize) -> bool
 }
 
 // Whether these bytes are a facial record: the 14 bytes of its header, then as many images as it says, and nothing after.
+#[tactic(auto, unfolding(crate::specs::Judged::is_facial, records::specs::Fills::whole))]
 pub fn is_facial(d: &[u8]) -> bool
     ensures { result ≡ is_facial d.now }
 {
@@ -80,5 +72,5 @@ pub fn is_facial(d: &[u8]) -> bool
     if !record_head(d, count) {
         return false;
     }
-    images(d, count)
+    records::fills(&Images, count, 14, d)
 }

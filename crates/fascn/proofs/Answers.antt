@@ -1,12 +1,11 @@
 -- What encoding answers, in each of its three ways out. Assumes nothing.
 use mathlib.Core.Path.{◌≡◌, ◌∙◌}
 use mathlib.Core.Bool.{true, false}
-use mathlib.Core.List.{List, ◌++◌}
+use mathlib.Core.List.{List}
 use Prim.Native.Nat.{ℕ, ◌≤◌}
 use native.Mathlib.Omega.{arith}
 use lib.Dec.{ltb}
-use lib.ListN.{length, take, replicate}
-use lib.Seq.{take_at}
+use lib.ListN.{length}
 use borrow.Author.Tests.{ltb-false}
 use Rattle.laws.specs.Room.{zeros, Put}
 use Rattle.laws.proofs.Rooms.{put-filled, filled_none}
@@ -30,7 +29,3 @@ module _ (n : Numbers) (d : List ℕ) {z : List ℕ} (clear : z ≡ zeros (lengt
     encodes-0 k w =
         let f : length (encoded n) ≤ length d = omega (arith, length-encoded n, ltb-false (length d) 25 k) in
         record { answer = rw (h, k); room = rw (h, k) (put-filled clear f w).0 }
-
--- the first 25 of forty bytes
-pub front : (n : Numbers) (v : List ℕ) → v ≡ encoded n ++ replicate 15 0 → take 25 v ≡ encoded n
-front n v e = rw e (take_at (encoded n) (replicate 15 0) 25 (length-encoded n))

@@ -1,18 +1,18 @@
 -- Decoding succeeds with some numbers exactly where the bytes are theirs. Assumes nothing.
-use mathlib.Core.Path.{◌≡◌, sym, ap, ◌∙◌}
-use mathlib.Core.Bool.{Bool, true, false, ◌&&◌}
+use mathlib.Core.Path.{◌≡◌, sym, ap}
+use mathlib.Core.Bool.{Bool, true, ◌&&◌}
 use mathlib.Core.Logic.{◌↔◌, inl, inr}
 use mathlib.Core.List.{List}
 use Prim.Native.Nat.{ℕ}
 use native.Mathlib.Omega.{arith}
 use lib.Dec.{eqb}
 use lib.ListN.{length}
-use borrow.Author.Tests.{eqb-true, eq-eqb, ne_eqb}
+use borrow.Author.Tests.{eqb-true, eq-eqb}
 use Rattle.laws.specs.Bytes.{Bytes}
 use Rattle.laws.proofs.Cases.{which, and-true, and_is, not_so}
 use Rattle.fascn.specs.Fascn.{encoded, IsFascnOf, IsFascn}
 use Rattle.fascn.specs.Calls.{success, refused}
-use Rattle.fascn.specs.Reading.{values_of, framed, field, fields, decoded, is_fascn, origin_of}
+use Rattle.fascn.specs.Reading.{values_of, framed, fields, decoded, is_fascn, origin_of}
 use Rattle.fascn.specs.declared.Numbers.{Numbers}
 use Rattle.fascn.specs.declared.Decoded.{Decoded}
 use Rattle.fascn.proofs.Framing.{checked-framed, fields-checked, framed-range, framed-checked}
@@ -75,32 +75,6 @@ fascn-exact s b = (there, back)
     back : IsFascn s → eqb (decoded s).number 0 ≡ true
     back f = rw (complete s f.0 f.1)
 
--- ---- for the code: the answer of each way out
-
-pub other_length : (s : List ℕ) → (length s ≡ 25 → ⊥) → refused ≡ decoded s
-unfolding decoded
-other_length s h = rw (not_so (passes s) (λ p. h (eqb-true (length s) 25 (and-true (eqb (length s) 25) _ p).0)))
-
-pub not-framed : (s : List ℕ) → framed (values_of s) ≡ false → refused ≡ decoded s
-unfolding decoded
-not-framed s h = rw (not_so (passes s) (λ p. let z : true ≡ false = sym (and-true (eqb (length s) 25) _ p).1 ∙ h in let y : ◌≡◌ {A = ℕ} 0 1 = cc in omega arith))
-
-pub well-framed : (s : List ℕ) → length s ≡ 25 → framed (values_of s) ≡ true → success (fields (values_of s)) ≡ decoded s
-unfolding decoded
-well-framed s l h = rw (eq-eqb _ _ l, h)
-
-pub no_fascn : (s : List ℕ) → (length s ≡ 25 → ⊥) → false ≡ is_fascn s
-unfolding is_fascn
-no_fascn s h = rw (← other_length s h)
-
-pub is-framed-fascn : (s : List ℕ) → length s ≡ 25 → framed (values_of s) ≡ is_fascn s
-unfolding is_fascn
-is-framed-fascn s l =
-    elim (which (framed (values_of s))) [
-      | inl h ↦ rw (h, ← well-framed s l h)
-      | inr h ↦ rw (h, ← not-framed s h)
-    ]
-
 -- ---- the agency and the system of bytes that are a FASC-N
 
 pub origin-exact : (s : List ℕ) → IsFascn s → ((origin_of s).agency ≡ (decoded s).numbers.agency) × ((origin_of s).system ≡ (decoded s).numbers.system)
@@ -110,11 +84,3 @@ origin-exact s f =
       | inl p ↦ let l = (and-true (eqb (length s) 25) _ p).0 in (rw (p, l), rw (p, l))
       | inr p ↦ let z : refused ≡ success f.0 = rw p at (complete s f.0 f.1) in let y : ◌≡◌ {A = ℕ} 17 0 = ap (λ (d : Decoded). d.number) z in absurd (omega arith)
     ]
-
-pub no_origin : (s : List ℕ) → (length s ≡ 25 → ⊥) → record { agency = 0; system = 0 } ≡ origin_of s
-unfolding origin_of
-no_origin s h = rw (ne_eqb _ _ h)
-
-pub read-origin : (s vs : List ℕ) → length s ≡ 25 → vs ≡ values_of s → record { agency = field vs 1 4; system = field vs 6 4 } ≡ origin_of s
-unfolding origin_of
-read-origin s vs l e = rw (eq-eqb _ _ l, e)

@@ -4,17 +4,17 @@ use mathlib.Core.Bool.{true}
 use mathlib.Core.Logic.{◌↔◌}
 use mathlib.Core.List.{List, [], ◌∷◌, ◌++◌}
 use Prim.Native.Nat.{ℕ, ◌+◌, ◌/◌, ◌%◌, ◌^◌, ◌<◌, ◌≤◌}
-use native.Mathlib.Numerals.{add-one}
 use native.Mathlib.Omega.{arith}
 use lib.Bits.{bit_xor, xor_lt, xor_self, xor_zero_r, xor_add_and, and_le_l, and_le_r}
 use lib.Dec.{eqb, lit<}
 use lib.ListN.{length, get_or, drop, set}
 use lib.Seq.{drop-cons, take_all}
 use borrow.Author.Tests.{ltb-true, lt-ltb, eqb-true}
+use Rattle.std.specs.List.{list_all}
+use Rattle.std.proofs.lemmas.List.Sums.{fold-append}
 use Rattle.laws.specs.Digits.{digits, value}
 use Rattle.laws.specs.Bytes.{Below}
 use Rattle.laws.specs.Layout.{part, joined, cut}
-use Rattle.laws.specs.Tests.{each}
 use Rattle.laws.proofs.Cases.{and-true, and_is, all_true, each-join}
 use Rattle.laws.proofs.Bases.{below-append, below-join, below-take, below-drop, below-digits, value-lt, value-digits, digits-read}
 use Rattle.laws.proofs.Layouts.{part-long, part-part, joined-cut, ◌then◌}
@@ -65,24 +65,19 @@ range-exact n = (there, back)
 
 -- ---- digits
 
-each_below : (ds : List ℕ) → Below 10 ds → each is_digit ds ≡ true
+each_below : (ds : List ℕ) → Below 10 ds → list_all is_digit ds ≡ true
 each_below [] h = refl
 each_below (d ∷ ds) h = and_is _ _ (lt-ltb d 10 h.0) (each_below ds h.1)
 
-below_each : (ds : List ℕ) → each is_digit ds ≡ true → Below 10 ds
+below_each : (ds : List ℕ) → list_all is_digit ds ≡ true → Below 10 ds
 below_each [] e = tt
 below_each (d ∷ ds) e = let c = and-true (is_digit d) _ e in (ltb-true d 10 c.0, below_each ds c.1)
 
 -- ---- the check
 
-pub exclusive-next : (c k : ℕ) (v : List ℕ) → k < length v → exclusive c (drop k v) ≡ exclusive (bit_xor c (get_or v k 0)) (drop (k + 1) v)
-unfolding exclusive
-exclusive-next c k v h = rw (add-one, drop-cons v k 0)
-
 pub exclusive-append : (c : ℕ) (vs ws : List ℕ) → exclusive c (vs ++ ws) ≡ exclusive (exclusive c vs) ws
 unfolding exclusive
-exclusive-append c [] ws = refl
-exclusive-append c (v ∷ vs) ws = exclusive-append (bit_xor c v) vs ws
+exclusive-append c vs ws = fold-append bit_xor c vs ws
 
 exclusive-last : (c : ℕ) (vs : List ℕ) (x : ℕ) → exclusive c (vs ++ (x ∷ [])) ≡ bit_xor (exclusive c vs) x
 unfolding exclusive
@@ -107,13 +102,13 @@ unfolding checked
 below-checked n =
     below-append 16 (values n) (exclusive 0 (values n) ∷ []) (below-values n) (below-exclusive 0 (values n) (lit< tt) (below-values n), tt)
 
-digits-digits : (k x : ℕ) → each is_digit (digits 10 k x) ≡ true
+digits-digits : (k x : ℕ) → list_all is_digit (digits 10 k x) ≡ true
 digits-digits k x = each_below (digits 10 k x) (below-digits 10 (lit< tt) k x)
 
 digit_lt : (x : ℕ) → is_digit (x % 10) ≡ true
 digit_lt x = lt-ltb (x % 10) 10 (omega arith)
 
-digits-tail : (n : Numbers) → each is_digit (digits 10 10 n.person ++ digits 10 1 n.category ++ digits 10 4 n.organisation ++ digits 10 1 n.association) ≡ true
+digits-tail : (n : Numbers) → list_all is_digit (digits 10 10 n.person ++ digits 10 1 n.category ++ digits 10 4 n.organisation ++ digits 10 1 n.association) ≡ true
 digits-tail n =
     each-join is_digit (digits 10 10 n.person ++ digits 10 1 n.category ++ digits 10 4 n.organisation) (digits 10 1 n.association)
     (each-join is_digit (digits 10 10 n.person ++ digits 10 1 n.category) (digits 10 4 n.organisation)

@@ -1,14 +1,13 @@
 -- Forty characters of five bits are 25 bytes: written group by group or all at once, and read back. Assumes nothing.
 use mathlib.Core.Path.{◌≡◌, refl, ap, ◌∙◌}
 use mathlib.Core.List.{List, map}
-use Prim.Native.Nat.{ℕ, ◌-◌, ◌^◌, ◌≤◌, ◌<◌}
+use Prim.Native.Nat.{ℕ, ◌^◌, ◌≤◌, ◌<◌}
 use native.Mathlib.Omega.{arith}
 use lib.Dec.{lit<}
-use lib.ListN.{length, take, drop}
+use lib.ListN.{length}
 use lib.Seq.{take_all}
 use Rattle.laws.specs.Digits.{digits, value, groups}
 use Rattle.laws.specs.Bytes.{Below, Bytes}
-use Rattle.laws.proofs.Turns.{rest}
 use Rattle.laws.proofs.Bases.{value-lt, value-digits, digits-read, below-digits, groups-are}
 use Rattle.fascn.specs.Fascn.{values, checked, characters, encoded, IsFascn}
 use Rattle.fascn.specs.Reading.{value_of, values_of}
@@ -42,15 +41,10 @@ encoded-groups n =
 
 -- ---- reading, five bytes a group
 
-values-groups : (s : List ℕ) → Bytes s → length s ≡ 25 → map value_of (groups 256 5 32 8 5 0 s) ≡ values_of s
-unfolding values_of
-values-groups s b h =
+pub characters-groups : (s : List ℕ) → Bytes s → length s ≡ 25 → groups 256 5 32 8 5 0 s ≡ digits 32 40 (value 256 s)
+characters-groups s b h =
     let g : length s ≤ 25 = omega arith in
-    ap (map value_of) (groups-are 256 32 5 8 (lit< tt) (lit< tt) refl 5 0 s b (omega arith) ∙ ap (λ (l : List ℕ). digits 32 40 (value 256 l)) (take_all 25 s g))
-
--- where the code has unpacked all of some bytes and taken the values of what it got
-pub values-read : (s : List ℕ) → Bytes s → length s ≡ 25 → {u v : List ℕ} → u ≡ groups 256 5 32 8 5 0 (take (length s - 0) (drop 0 s)) → v ≡ map value_of u → v ≡ values_of s
-values-read s b l e f = f ∙ ap (map value_of) (rw (rest s 0) at e) ∙ values-groups s b l
+    groups-are 256 32 5 8 (lit< tt) (lit< tt) refl 5 0 s b (omega arith) ∙ ap (λ (l : List ℕ). digits 32 40 (value 256 l)) (take_all 25 s g)
 
 -- ---- there and back
 

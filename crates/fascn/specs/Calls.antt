@@ -1,5 +1,5 @@
 -- What decoding and encoding answer.
-use Rattle.std.specs.Prelude.{◌≡◌, cond, List, [], ℕ, ltb, eqb, length}
+use Rattle.std.specs.Prelude.{◌≡◌, cond, Option, Some, None, List, [], ℕ, ltb, eqb, length}
 use Rattle.laws.specs.Room.{filled}
 use Rattle.fascn.specs.Fascn.{encoded, in_range}
 use Rattle.fascn.specs.declared.Numbers.{Numbers}
@@ -15,6 +15,11 @@ no_numbers = record { agency = 0; system = 0; credential = 0; series = 0; issue 
 
 abbrev pub refused : Decoded
 refused = record { number = 17; numbers = no_numbers }
+
+-- the answer of what was read, or was not
+abbrev pub decoded_by : Option Numbers → Decoded
+decoded_by (Some n) = success n
+decoded_by None = refused
 
 -- ---- "Encoding alone: 7, then 3 for a room under 25."
 

@@ -1,5 +1,6 @@
 -- 01, "FASC-N": nine numbers as forty characters of five bits, 200 bits, 25 bytes.
 use Rattle.std.specs.Prelude.{◌≡◌, Bool, ◌&&◌, List, [], ◌∷◌, ◌++◌, map, ℕ, ◌-◌, ◌/◌, ◌%◌, ◌^◌, ◌<◌, ltb}
+use Rattle.std.specs.List.{fold}
 use Rattle.std.specs.Int.Bits.{bit_xor}
 use Rattle.std.specs.Int.Count.{ones}
 use Rattle.laws.specs.Digits.{digits, value}
@@ -19,8 +20,7 @@ values n =
 
 -- the exclusive or of c and all of a list
 unfoldable pub exclusive : ℕ → List ℕ → ℕ
-exclusive c [] = c
-exclusive c (v ∷ vs) = exclusive (bit_xor c v) vs
+exclusive = fold bit_xor
 
 -- "The check's value is the exclusive or of the 39 values before it": the 40 values
 unfoldable pub checked : Numbers → List ℕ

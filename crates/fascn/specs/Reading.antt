@@ -1,9 +1,10 @@
 -- The FASC-N read character by character. `proofs/Codec.antt` shows that this reads exactly what `Fascn.antt` says.
 use Rattle.std.specs.Prelude.{Bool, cond, ◌&&◌, List, [], ◌∷◌, map, ℕ, ◌/◌, ◌%◌, ltb, eqb, length, get_or}
+use Rattle.std.specs.List.{list_all}
 use Rattle.std.specs.Int.Count.{ones}
 use Rattle.laws.specs.Digits.{digits, value}
 use Rattle.laws.specs.Layout.{part}
-use Rattle.laws.specs.Tests.{all, each}
+use Rattle.laws.specs.Tests.{all}
 use Rattle.fascn.specs.Fascn.{exclusive}
 use Rattle.fascn.specs.Calls.{success, refused}
 use Rattle.fascn.specs.declared.Numbers.{Numbers}
@@ -27,7 +28,7 @@ abbrev pub is_digit : ℕ → Bool
 is_digit d = ltb d 10
 
 abbrev pub are_digits : List ℕ → ℕ → ℕ → Bool
-are_digits vs at count = each is_digit (part vs at count)
+are_digits vs at count = list_all is_digit (part vs at count)
 
 -- start, separators, end and check stand where they belong, and digits between them
 abbrev pub frame_tests : List ℕ → List Bool

@@ -2,14 +2,14 @@
 use Prim.Native.Nat.{ℕ, zero, suc, ◌+◌, ◌-◌, ◌<◌, ◌≤◌}
 use mathlib.Core.Path.{◌≡◌, refl, sym, ap, ap₂, ◌∙◌}
 use mathlib.Core.Logic.{inl, inr}
-use mathlib.Core.Bool.{Bool, true, false, true≢false}
+use mathlib.Core.Bool.{true}
 use mathlib.Core.List.{List, [], ◌∷◌, ◌++◌, append_assoc}
 use native.Mathlib.Nat.{zero-add}
 use native.Mathlib.Omega.{arith}
 use lib.Dec.{ltb}
 use lib.ListN.{length, take, drop, length-append, length-drop, length-replicate}
 use lib.Seq.{length-take-le, take-append-add, take-append_seam}
-use borrow.Author.Tests.{ltb-true, ltb-false}
+use borrow.Author.Tests.{ltb-true}
 use borrow.Rule.Slice.PartMut.{put_mid, mid_of, post_of, same_len_mid}
 use Rattle.laws.specs.Bytes.{Bytes}
 use Rattle.laws.specs.Room.{zeros, filled}
@@ -28,7 +28,7 @@ use Rattle.summary.specs.declared.Tally.{Tally}
 use Rattle.summary.proofs.Laws.{last-0, last-most}
 use Rattle.summary.proofs.Agreeing.{agrees}
 use Rattle.summary.proofs.Summing.{counts as Counts-all, few-conform, rows_more, offset-more, after_more, entries-more, entry_row, row-short}
-use Rattle.folder.specs.Going.{text_size, lent_of, SoFar, Goes, Summarises}
+use Rattle.folder.specs.Going.{text_size, lent_of, SoFar, OneMore, Summarises}
 use Rattle.folder.specs.declared.Going.{Going}
 
 -- ---- a container that was read
@@ -81,9 +81,9 @@ written text row at k h =
 module _ {today : ℕ} {g : Going} {text : List ℕ} (date : IsDate today) (s : SoFar today g text) (few : g.count < 256) where
   pub appended : {kind size : ℕ} {c : List ℕ} → kind < 256 → size < 4294967296 → Bytes c → length c ≡ lent_of size → {left : List ℕ} {r : Rowed} (k : ℕ) → k ≡ row_room
       → RowAnswers today kind g.offset size c g.tally (mid_of g.length k text) left r
-      → Goes today g (record { unread = false; count = g.count + 1; offset = g.offset + size + 5; length = g.length + r.length; tally = r.tally }) (put_mid g.length k text left)
+      → OneMore today g (record { count = g.count + 1; offset = g.offset + size + 5; length = g.length + r.length; tally = r.tally }) (put_mid g.length k text left)
   appended {kind} {size} {c} small fits b l {left} {r} k room a =
-      record { so_far = λ _. so_far; on = λ _. refl; size_is = same_size ∙ s.size_is }
+      record { so_far = so_far; on = refl }
     where
       before : List ℕ
       before = mid_of g.length k text
@@ -128,7 +128,7 @@ module _ {today : ℕ} {g : Going} {text : List ℕ} (date : IsDate today) (s : 
       same_size : length (put_mid g.length k text left) ≡ length text
       same_size = same_len_mid g.length k text left (ap length left_is ∙ length-filled row k (omega (arith, short, room)) ∙ room ∙ sym lent-room)
 
-      so_far : SoFar today (record { unread = false; count = g.count + 1; offset = g.offset + size + 5; length = g.length + r.length; tally = r.tally }) (put_mid g.length k text left)
+      so_far : SoFar today (record { count = g.count + 1; offset = g.offset + size + 5; length = g.length + r.length; tally = r.tally }) (put_mid g.length k text left)
       so_far =
           record {
             es = s.es ++ e ∷ [];
@@ -146,33 +146,7 @@ module _ {today : ℕ} {g : Going} {text : List ℕ} (date : IsDate today) (s : 
   -- it fits
   pub length-fits : {kind size : ℕ} {c : List ℕ} → kind < 256 → size < 4294967296 → Bytes c → length c ≡ lent_of size → {left : List ℕ} {r : Rowed} (k : ℕ) → k ≡ row_room
       → RowAnswers today kind g.offset size c g.tally (mid_of g.length k text) left r → g.length + r.length ≤ text_size
-  length-fits small fits b l k room a = let t = (appended small fits b l k room a).so_far refl in omega (arith, t.inside, t.few)
-
--- ---- where the file could not be read
-
-pub not_on : {today : ℕ} {g r : Going} {text : List ℕ} → length text ≡ text_size → r.unread ≡ true → Goes today g r text
-not_on l u = record { so_far = λ f. absurd (true≢false (sym u ∙ f)); on = λ f. absurd (true≢false (sym u ∙ f)); size_is = l }
-
-pub few-lent : (size : ℕ) → lent_of size ≤ largest
-few-lent size =
-    elim (which (ltb largest size)) [
-      | inl h ↦ rw h (omega arith)
-      | inr h ↦ rw h (ltb-false largest size h)
-    ]
-
--- ---- the loop
-
-pub begun : {today : ℕ} {u : Bool} {text : List ℕ} → length text ≡ text_size → SoFar today (record { unread = u; count = 0; offset = first_offset; length = 0; tally = start }) text
-begun l = record { es = []; many = refl; few = omega arith; are = tt; offset_is = refl; low = omega arith; rows_are = refl; inside = omega arith; tally_is = refl; size_is = l }
-
--- what is left: nothing once the file could not be read
-abbrev pub left : Bool → ℕ → ℕ
-left true n = 0
-left false n = suc n
-
-pub fewer-left : (b : Bool) {r g n : ℕ} {u : Bool} → u ≡ b → g < n → (u ≡ false → r ≡ g + 1) → left u (n - r) < left false (n - g)
-fewer-left true e l h = rw e (omega arith)
-fewer-left false e l h = rw e (omega (arith, l, h e))
+  length-fits small fits b l k room a = let t = (appended small fits b l k room a).so_far in omega (arith, t.inside, t.few)
 
 -- ---- the last lines
 

@@ -1,5 +1,5 @@
 -- The second time through a folder, as the program goes: what it wrote so far, and what may be written out.
-use Rattle.std.specs.Prelude.{ℕ, ◌+◌, ◌*◌, ◌≤◌, ◌≡◌, false, cond, List, ltb, length, take}
+use Rattle.std.specs.Prelude.{ℕ, ◌+◌, ◌*◌, ◌≤◌, ◌≡◌, cond, List, ltb, length, take}
 use Rattle.pieces.specs.Folder.{Entry, AreEntries}
 use Rattle.container.specs.Container.{largest}
 use Rattle.summary.specs.Rows.{row_room, start}
@@ -27,11 +27,10 @@ pub record SoFar (today : ℕ) (g : Going) (text : List ℕ) : Type 0 where
   pub tally_is : g.tally ≡ after today es start
   pub size_is : length text ≡ text_size
 
--- a turn: the file could not be read, or there is a row more
-pub record Goes (today : ℕ) (g r : Going) (text : List ℕ) : Type 0 where
-  pub so_far : r.unread ≡ false → SoFar today r text
-  pub on : r.unread ≡ false → r.count ≡ g.count + 1
-  pub size_is : length text ≡ text_size
+-- a turn: there is a row more
+pub record OneMore (today : ℕ) (g r : Going) (text : List ℕ) : Type 0 where
+  pub so_far : SoFar today r text
+  pub on : r.count ≡ g.count + 1
 
 -- these bytes may be written out: they are the summary of some entries under this date
 pub record Summarises (today : ℕ) (text : List ℕ) : Type 0 where

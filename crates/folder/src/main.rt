@@ -3,13 +3,12 @@
 // and summary; here the file is read and the text is written.
 #![tactic(auto)]
 
-ghost use Rattle.std.specs.Prelude.{true, false, ◌≡◌, ◌<◌, ◌≤◌, length, take, ◌++◌};
+ghost use Rattle.std.specs.Prelude.{IfSome, ◌≡◌, ◌<◌, ◌≤◌, length, take, ◌++◌};
 ghost use Rattle.laws.specs.Ascii.{ascii};
 ghost use Rattle.laws.specs.Room.{Put};
 ghost use Rattle.dates.specs.Date.{IsDate};
-ghost use Rattle.folder.specs.Going.{text_size, lent_of, SoFar, Goes, Summarises};
+ghost use Rattle.folder.specs.Going.{text_size, lent_of, SoFar, OneMore, Summarises};
 
-use dates::Date;
 use pieces::State;
 use std::fs::{OpenFile, OpenOptions};
 use std::io::{Cursor, Error, IsTerminal, Read, Seek, SeekFrom, Write};
@@ -18,11 +17,10 @@ use std::rt::{Env, Files};
 use std::{fs, io, str};
 use summary::Tally;
 
-// How far the second time through is: whether the file could not be read, how many rows are written, the offset of the next
-// container, how many bytes of text there are, and the state that goes from row to row.
+// How far the second time through is: how many rows are written, the offset of the next container, how many bytes of text there
+// are, and the state that goes from row to row.
 #[derive(Clone, Copy)]
 pub struct Going {
-    pub unread: bool,
     pub count: u64,
     pub offset: u64,
     pub length: usize,
@@ -94,38 +92,25 @@ fn lent(size: u64) -> usize
     size as usize
 }
 
-// The bytes of a container, or the place behind them where it is too long to be lent: whether they could be read.
-fn fetch(file: &mut (impl Read + Seek), size: u64, container: &mut [u8]) -> bool
+// The bytes of a container, or the place behind them where it is too long to be lent; None where they cannot be read.
+fn fetch(file: &mut (impl Read + Seek), size: u64, container: &mut [u8]) -> Option<()>
     requires { (size < 4294967296) × (length container.old ≡ 32768) }
 {
     if 32768 < size {
-        return file.seek(SeekFrom::Current(size as i64)).is_ok();
+        file.seek(SeekFrom::Current(size as i64)).ok()?;
+        return Some(());
     }
     let n = size as usize;
-    reading::read_full(file, &mut container[..n]) == n
-}
-
-fn unread(going: Going) -> Going
-    ensures { result.unread ≡ true }
-{
-    let tally = going.tally;
-    Going {
-        unread: true,
-        count: going.count,
-        offset: going.offset,
-        length: going.length,
-        tally: tally,
-    }
+    (reading::read_full(file, &mut container[..n]) == n).then_some(())
 }
 
 // The row of a container more, behind the rows before it.
 fn append(today: u64, kind: u8, size: u64, container: &[u8], going: Going, text: &mut [u8]) -> Going
     requires { IsDate today × SoFar today going text.old × (going.count < 256) × (size < 4294967296) × (length container.now ≡ lent_of size) }
-    ensures { Goes today going result text.new }
+    ensures { OneMore today going result text.new }
 {
     let at = going.length;
     let end = at + 64;
-    let tally = going.tally;
     let offset = going.offset;
     let rowed = prosianek::row(
         today,
@@ -133,55 +118,54 @@ fn append(today: u64, kind: u8, size: u64, container: &[u8], going: Going, text:
         offset,
         size,
         container,
-        tally,
+        going.tally,
         &mut text[at..end],
     );
-    let after = rowed.tally;
     Going {
-        unread: false,
         count: going.count + 1,
         offset: offset + size + 5,
         length: at + rowed.length as usize,
-        tally: after,
+        tally: rowed.tally,
     }
 }
 
-// One container more: its kind and its length, then its bytes, and its row.
-fn next(file: &mut (impl Read + Seek), today: u64, going: Going, text: &mut [u8]) -> Going
+// One container more: its kind and its length, then its bytes, and its row; None where the file cannot be read.
+fn next(file: &mut (impl Read + Seek), today: u64, going: Going, text: &mut [u8]) -> Option<Going>
     requires { IsDate today × SoFar today going text.old × (going.count < 256) }
-    ensures { Goes today going result text.new }
+    ensures more { IfSome result (λ r. OneMore today going r text.new) }
+    ensures same_size { length text.new ≡ length text.old }
 {
     let mut head = [0u8; 5];
     if reading::read_full(file, &mut head) < 5 {
-        return unread(going);
+        return None;
     }
     let kind = head[0];
     let size = numbers::number(&head, 1, 4);
     let mut container = [0u8; 32768];
-    if !fetch(file, size, &mut container) {
-        return unread(going);
-    }
+    fetch(file, size, &mut container)?;
     let n = lent(size);
-    append(today, kind, size, &container[..n], going, text)
+    Some(append(today, kind, size, &container[..n], going, text))
 }
 
-// How many containers there are; 257 where that cannot be read.
-fn read_count(file: &mut impl Read) -> u64 {
+// How many containers there are, where that can be read.
+fn read_count(file: &mut impl Read) -> Option<u64> {
     let mut head = [0u8; 2];
     if reading::read_full(file, &mut head) < 2 {
-        return 257;
+        return None;
     }
-    numbers::number(&head, 0, 2)
+    Some(numbers::number(&head, 0, 2))
 }
 
-// The second time through: a row for each container.
-fn rows(file: &mut (impl Read + Seek), today: u64, text: &mut [u8]) -> Going
+// The second time through: a row for each container; None where the file cannot be read again as it was.
+fn rows(file: &mut (impl Read + Seek), today: u64, text: &mut [u8]) -> Option<Going>
     requires { IsDate today × (length text.old ≡ text_size) }
-    ensures { result.unread ≡ false → SoFar today result text.new }
+    ensures { IfSome result (λ r. SoFar today r text.new) }
 {
-    let count = read_count(file);
+    let count = read_count(file)?;
+    if 256 < count {
+        return None;
+    }
     let mut going = Going {
-        unread: 256 < count,
         count: 0,
         offset: 7,
         length: 0,
@@ -191,10 +175,10 @@ fn rows(file: &mut (impl Read + Seek), today: u64, text: &mut [u8]) -> Going
             fascn: [0u8; 25],
         },
     };
-    while !going.unread & (going.count < count) {
-        going = next(file, today, going, text);
+    while going.count < count {
+        going = next(file, today, going, text)?;
     }
-    going
+    Some(going)
 }
 
 // The two last lines, behind the rows: how long the whole text is.
@@ -205,8 +189,12 @@ fn close(today: u64, going: Going, text: &mut [u8]) -> usize
 {
     let at = going.length;
     let end = at + 64;
-    let tally = going.tally;
-    let done = prosianek::last(tally.good, tally.agreement, &mut text[at..end]);
+    let Tally {
+        good,
+        agreement,
+        ..
+    } = going.tally;
+    let done = prosianek::last(good, agreement, &mut text[at..end]);
     at + done.length as usize
 }
 
@@ -310,11 +298,10 @@ fn summarise<R: Files + RandomSource + Print + Eprint>(
         return;
     }
     let mut text = [0u8; 16448];
-    let going = rows(file, today, &mut text);
-    if going.unread {
+    let Some(going) = rows(file, today, &mut text) else {
         let _ = eprintln!(rt; "folder: the file could not be read again as it was");
         return;
-    }
+    };
     let n = close(today, going, &mut text);
     publish(rt, today, path, &text[..n]);
 }
@@ -353,7 +340,7 @@ fn main(rt: HostRuntime) {
     let mut path = [0u8; 4096];
     let word_length = rt.arg(1, &mut word).unwrap_or(0);
     let path_length = rt.arg(2, &mut path).unwrap_or(0);
-    let Date::Is(today) = dates::date_of(&word[..word_length]) else {
+    let Some(today) = dates::date_of(&word[..word_length]) else {
         refuse(&rt, 2);
         return;
     };

@@ -15,14 +15,13 @@ use Rattle.laws.specs.Layout.{field}
 use Rattle.laws.specs.Format.{Format, end, breaks, numbered}
 use Rattle.laws.proofs.Cases.{and-true, and_is}
 use Rattle.laws.proofs.Formats.{skim, cond-and}
-use Rattle.records.specs.declared.Extent.TheVariants.{Takes}
+use Rattle.std.specs.Prelude.{Some}
 use Rattle.records.proofs.Exact.{Extends, whole-exact}
 use Rattle.iris.specs.Iris.{captured, image, pixels, picture, representation, iris, IsIris}
 use Rattle.pictures.specs.Judged.{date_holds, marks_hold, shape_holds, image_holds}
 use Rattle.iris.specs.Judged.{parts_hold, extent, extent_of, record_head, is_iris}
 use Rattle.iris.proofs.Agreed.{iris-agrees}
 use Rattle.iris.proofs.Told.{told}
-use Rattle.iris.proofs.Ways.{takes}
 
 -- the date, of a representation that stands at an offset: it has its length in front
 captured-judged : (k : Format (Unit {0})) (at : ℕ) (d : List ℕ) → skim (captured k) (at + 4) d ≡ cond (date_holds (drop at d)) (skim k (at + 13) d) (breaks tt)
@@ -94,10 +93,14 @@ representation-judged i k at d =
     ∙ ap (λ j. cond (date_holds (drop at d)) j (breaks tt)) (picture-judged i (said at d) k at d)
     ∙ sym (cond-and (date_holds (drop at d)) (pictured i (said at d) at d) _ _)
 
+takes : (i : ℕ) (s : List ℕ) (n q : ℕ) → n ≡ field s 0 4 → q ≡ field s 18 1 → 52 + 5 * q ≤ length s → parts_hold i q s ≡ true → extent i s ≡ Some n
+unfolding extent
+takes i s n q e f l h = rw (le-leb 52 (length s) (omega arith), ← f, le-leb _ _ l, h, e)
+
 representations : (i : ℕ) → Extends (representation i) (extent i)
 representations i = record { test = represented i; size = size; judged = representation-judged i; told = back; tells = tells }
   where
-    back : (at : ℕ) (d : List ℕ) (n : ℕ) → extent i (drop at d) ≡ Takes n → (represented i at d ≡ true) × (n ≡ size at d)
+    back : (at : ℕ) (d : List ℕ) (n : ℕ) → extent i (drop at d) ≡ Some n → (represented i at d ≡ true) × (n ≡ size at d)
     back at d n e =
         let t = told i (drop at d) e in
         let q : field (drop at d) 18 1 ≡ blocks at d = simp drop-drop in
@@ -106,7 +109,7 @@ representations i = record { test = represented i; size = size; judged = represe
         let p : image_holds i (drop (at + (19 + 5 * blocks at d)) d) ≡ true = rw (q, drop-drop) at t.image in
         (and_is _ _ t.date (and_is _ _ p (eq-eqb _ _ (sym (rw m at t.size) ∙ w))), w)
 
-    tells : (at : ℕ) (d : List ℕ) → represented i at d ≡ true → at + size at d ≤ length d → extent i (drop at d) ≡ Takes (size at d)
+    tells : (at : ℕ) (d : List ℕ) → represented i at d ≡ true → at + size at d ≤ length d → extent i (drop at d) ≡ Some (size at d)
     tells at d e l =
         let b = and-true (date_holds (drop at d)) (pictured i (said at d) at d) e in
         let p = and-true (image_holds i (drop (at + (19 + 5 * blocks at d)) d)) _ b.1 in
@@ -118,7 +121,7 @@ representations i = record { test = represented i; size = size; judged = represe
         let k : image_holds i (drop (19 + 5 * blocks at d) (drop at d)) ≡ true = rw drop-drop p.0 in
         let f : said at d ≤ length (drop at d) = omega arith in
         let h : parts_hold i (blocks at d) (drop at d) ≡ true = rw (← m, ← n) (and_is _ _ (and_is _ _ (and_is _ _ b.0 k) p.1) (le-leb _ _ f)) in
-        rw (← w) (sym (takes i (drop at d) (omega arith) (blocks at d) q (omega arith) (sym h) m))
+        rw (← w) (takes i (drop at d) (said at d) (blocks at d) m q (omega arith) h)
 
 record-judged : (d : List ℕ) → skim (iris (length d)) 0 d ≡ cond (record_head (field d 12 2) d) (skim (numbered (field d 12 2) representation (end tt)) 16 d) (breaks tt)
 unfolding record_head

@@ -1,16 +1,17 @@
 -- The tested form taken back: what each answer says of the bytes. Assumes nothing.
-use Prim.Native.Nat.{ℕ, ◌+◌, ◌-◌, ◌*◌, ◌≤◌}
-use mathlib.Core.Path.{◌≡◌, sym}
+use Prim.Native.Nat.{ℕ, ◌+◌, ◌*◌, ◌≤◌}
+use mathlib.Core.Path.{◌≡◌}
 use mathlib.Core.Bool.{true, cond}
 use mathlib.Core.List.{List}
-use lib.ListN.{length, drop, length-drop}
+use lib.ListN.{length, drop}
 use lib.Dec.{leb}
-use borrow.Author.Tests.{leb-true, eqb-true}
+use borrow.Author.Tests.{eqb-true}
 use Rattle.laws.specs.Layout.{field}
 use Rattle.laws.proofs.Cases.{all_true}
-use Rattle.records.specs.declared.Extent.TheVariants.{Takes, None}
+use Rattle.std.specs.Prelude.{Some, None}
 use Rattle.records.proofs.Ways.{takes_of}
 use Rattle.pictures.specs.Judged.{date_holds, image_holds}
+use Rattle.iris.specs.Within.{representation_within}
 use Rattle.iris.specs.Judged.{parts_tests, parts_hold, sized, extent}
 
 pub record Representation (i : ℕ) (s : List ℕ) (n : ℕ) : Type 0 where
@@ -20,17 +21,14 @@ pub record Representation (i : ℕ) (s : List ℕ) (n : ℕ) : Type 0 where
   pub parts : n ≡ 52 + 5 * field s 18 1 + field s (48 + 5 * field s 18 1) 4
   pub inside : n ≤ length s
 
-pub told : (i : ℕ) (s : List ℕ) {n : ℕ} → extent i s ≡ Takes n → Representation i s n
+pub told : (i : ℕ) (s : List ℕ) {n : ℕ} → extent i s ≡ Some n → Representation i s n
 unfolding extent
 told i s {n} e =
     let size : ℕ = field s 0 4 in
     let q : ℕ = field s 18 1 in
     let a = takes_of (leb 52 (length s)) (sized i q s) e in
-    let b = takes_of (leb (52 + 5 * q) (length s)) (cond (parts_hold i q s) (Takes size) None) a.1 in
-    let c = takes_of (parts_hold i q s) (Takes size) b.1 in
+    let b = takes_of (leb (52 + 5 * q) (length s)) (cond (parts_hold i q s) (Some size) None) a.1 in
+    let c = takes_of (parts_hold i q s) (Some size) b.1 in
     let t = all_true (parts_tests i q s) c.0 in
     let p : n ≡ size = cc in
-    record { size = p; date = t 0; image = t 1; parts = rw p (eqb-true _ _ (t 2)); inside = rw p (leb-true _ _ (t 3)) }
-
-pub told-inside : (i at : ℕ) (d : List ℕ) {n : ℕ} → Takes n ≡ extent i (drop at d) → n ≤ length d - at
-told-inside i at d e = rw length-drop at (told i (drop at d) (sym e)).inside
+    record { size = p; date = t 0; image = t 1; parts = rw p (eqb-true _ _ (t 2)); inside = representation_within i s n e }

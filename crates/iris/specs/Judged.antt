@@ -1,11 +1,9 @@
 -- The record as the code tests it, field by field; proofs/Exact.antt ties it to the table.
-use Rattle.std.specs.Prelude.{ℕ, ◌+◌, ◌-◌, ◌*◌, Bool, cond, List, [], ◌∷◌, length, drop, leb, eqb}
+use Rattle.std.specs.Prelude.{ℕ, ◌+◌, ◌-◌, ◌*◌, Bool, cond, List, [], ◌∷◌, length, drop, leb, eqb, Option, Some, None}
 use Rattle.laws.specs.Layout.{field}
 use Rattle.laws.specs.Format.{◌or◌, ◌and◌}
 use Rattle.laws.specs.Tests.{all}
 use Rattle.records.specs.Fills.{whole}
-use Rattle.records.specs.declared.Extent.{Extent}
-use Rattle.records.specs.declared.Extent.TheVariants.{Takes, None}
 use Rattle.pictures.specs.Judged.{date_holds, image_holds}
 use Rattle.iris.specs.Iris.{within}
 
@@ -17,10 +15,10 @@ parts_tests i q s =
 abbrev pub parts_hold : ℕ → ℕ → List ℕ → Bool
 parts_hold i q s = all (parts_tests i q s)
 
-abbrev pub sized : ℕ → ℕ → List ℕ → Extent
-sized i q s = cond (leb (52 + 5 * q) (length s)) (cond (parts_hold i q s) (Takes (field s 0 4)) None) None
+abbrev pub sized : ℕ → ℕ → List ℕ → Option ℕ
+sized i q s = cond (leb (52 + 5 * q) (length s)) (cond (parts_hold i q s) (Some (field s 0 4)) None) None
 
-unfoldable pub extent : ℕ → List ℕ → Extent
+unfoldable pub extent : ℕ → List ℕ → Option ℕ
 extent i s = cond (leb 52 (length s)) (sized i (field s 18 1) s) None
 
 -- the record, with so many representations
@@ -33,7 +31,7 @@ unfoldable pub record_head : ℕ → List ℕ → Bool
 record_head n d = all (record_tests n d)
 
 -- the one behind which so many more are due, of n
-abbrev pub extent_of : ℕ → ℕ → List ℕ → Extent
+abbrev pub extent_of : ℕ → ℕ → List ℕ → Option ℕ
 extent_of n more = extent (n - more)
 
 -- these bytes are an iris record

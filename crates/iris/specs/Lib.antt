@@ -1,2 +1,3 @@
 pub mod Iris
 pub mod Judged
+pub mod Within

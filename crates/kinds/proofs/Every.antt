@@ -1,6 +1,6 @@
 -- What holds of every kind: one test, computed over the list of tables, holds of the table of any number. Assumes nothing.
 use Prim.Native.Nat.{ℕ, zero, suc, ◌+◌, ◌≤◌, ◌<◌}
-use mathlib.Core.Path.{◌≡◌, refl}
+use mathlib.Core.Path.{◌≡◌, refl, ap}
 use mathlib.Core.Bool.{Bool, true, cond}
 use mathlib.Core.Logic.{inl, inr}
 use mathlib.Core.List.{[], ◌∷◌}
@@ -11,8 +11,8 @@ use borrow.Author.Tests.{leb-true, ltb-true, eqb-true}
 use Rattle.laws.specs.Tests.{all_below}
 use Rattle.laws.proofs.Cases.{which, at_each, along}
 use Rattle.kinds.specs.Tables.{Table, tables, table, IsKind, find, row_of, last_of, last_row}
-use Rattle.kinds.specs.declared.ValueRule.{ValueRule}
-use Rattle.kinds.specs.declared.Row.TheVariants.{At}
+use Rattle.std.specs.Prelude.{Some}
+use Rattle.kinds.specs.declared.Row.{Row}
 
 -- a test that sees the kind's number too, and holds of any number without rows
 pub of-every-kind : (test : ℕ → Table → Bool) → all_below (λ k. test k (table k)) (length ([] ∷ tables)) ≡ true → ((k : ℕ) → test k [] ≡ true)
@@ -46,19 +46,20 @@ unfolding all_below
 last-is-all kind = eqb-true _ _ (of-every (λ rows. eqb (last_of 0 0 rows) (length rows)) refl kind)
 
 -- a row that a tag has is one of them too
-pub found-row : (rs : Table) (i from t : ℕ) {j f least most : ℕ} {empty : Bool} {rule : ValueRule} → find i from rs t ≡ At j f least most empty rule
-    → (i < j) × (j ≤ i + length rs)
+pub found-row : (rs : Table) (i from t : ℕ) {row : Row} → find i from rs t ≡ Some row → (i < row.index) × (row.index ≤ i + length rs)
 found-row [] i from t e = let z : ◌≡◌ {A = ℕ} 0 1 = cc in absurd (omega arith)
-found-row (r ∷ rs) i from t {j} {f} {least} {most} {empty} {rule} e =
+found-row (r ∷ rs) i from t {row} e =
     elim (which (eqb t r.tag)) [
       | inl q ↦
-          let g : At (i + 1) from r.lengths.least r.lengths.most r.lengths.empty r.rule ≡ At j f least most empty rule = rw q at e in
-          let p : i + 1 ≡ j = cc in
+          let here : Row = record { index = i + 1; after = from; lengths = r.lengths; rule = r.rule } in
+          let g : Some here ≡ Some row = rw q at e in
+          let s : here ≡ row = cc in
+          let p : i + 1 ≡ row.index = ap (λ (x : Row). x.index) s in
           (omega arith, omega arith)
       | inr q ↦
           let h = found-row rs (i + 1) (cond r.optional from (i + 1)) t (rw q at e) in
           (omega (arith, h.0), omega (arith, h.1))
     ]
 
-pub row_number : (kind t : ℕ) {j f least most : ℕ} {empty : Bool} {rule : ValueRule} → row_of kind t ≡ At j f least most empty rule → (1 ≤ j) × (j ≤ 15)
+pub row_number : (kind t : ℕ) {row : Row} → row_of kind t ≡ Some row → (1 ≤ row.index) × (row.index ≤ 15)
 row_number kind t e = let h = found-row (table kind) 0 0 t e in (omega (arith, h.0), omega (arith, h.1, few-rows kind))

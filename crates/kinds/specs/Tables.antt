@@ -1,18 +1,12 @@
 -- 01, "Container form", and requests 2026-03, 2026-04 and 2026-06: the tables of the twelve kinds, in their order, and what a table says of a tag and of a row's number.
-use Rattle.std.specs.Prelude.{ℕ, ◌+◌, ◌≤◌, ◌≡◌, ◌⊎◌, Bool, true, false, cond, ◌&&◌, ◌||◌, List, [], ◌∷◌, leb, eqb, drop, get_or}
+use Rattle.std.specs.Prelude.{ℕ, ◌+◌, ◌≤◌, ◌≡◌, ◌⊎◌, Bool, true, false, cond, ◌&&◌, ◌||◌, List, [], ◌∷◌, leb, eqb, drop, get_or, Option, Some, None}
 use Rattle.kinds.specs.declared.ValueRule.{ValueRule}
 use Rattle.kinds.specs.declared.ValueRule.TheVariants.{Free, Fascn, Uuid, Expiry, Model, Application, Policy, Text, Date, Fingers, Face, Iris, Certificate, CertInfo}
+use Rattle.kinds.specs.declared.Lengths.{Lengths}
 use Rattle.kinds.specs.declared.Row.{Row}
-use Rattle.kinds.specs.declared.Row.TheVariants.{At, Missing}
 use Rattle.kinds.specs.declared.Slot.{Slot}
-use Rattle.kinds.specs.declared.Slot.TheVariants.{Holds, End}
 
 -- ---- "Numbers are permitted lengths": from least to most, and 0 too where empty is true
-
-pub record Lengths : Type 0 where
-  pub least : ℕ
-  pub most : ℕ
-  pub empty : Bool
 
 abbrev pub exactly : ℕ → Lengths
 exactly n = record { least = n; most = n; empty = false }
@@ -35,11 +29,8 @@ abbrev pub Permitted : Lengths → ℕ → Type 0
 Permitted l n = ((l.least ≤ n) × (n ≤ l.most)) ⊎ ((l.empty ≡ true) × (n ≡ 0))
 
 -- the same as a test
-abbrev pub permits : ℕ → ℕ → Bool → ℕ → Bool
-permits least most empty n = (leb least n && leb n most) || (empty && eqb n 0)
-
 abbrev pub permitted : Lengths → ℕ → Bool
-permitted l n = permits l.least l.most l.empty n
+permitted l n = (leb l.least n && leb n l.most) || (l.empty && eqb n 0)
 
 -- ---- a row: its tag (5F2F is one number), "A question mark means optional", its lengths and its value's rule
 
@@ -168,22 +159,22 @@ is_kind kind = leb 1 kind && leb kind 12
 -- ---- what the code asks of a table
 
 -- the first row with a tag, after i rows of which number `from` was the last mandatory one
-abbrev pub find : ℕ → ℕ → Table → ℕ → Row
-find i from [] t = Missing
+abbrev pub find : ℕ → ℕ → Table → ℕ → Option Row
+find i from [] t = None
 find i from (r ∷ rs) t =
     cond (eqb t r.tag)
-    (At (i + 1) from r.lengths.least r.lengths.most r.lengths.empty r.rule)
+    (Some (record { index = i + 1; after = from; lengths = r.lengths; rule = r.rule }))
     (find (i + 1) (cond r.optional from (i + 1)) rs t)
 
-abbrev pub row_of : ℕ → ℕ → Row
+abbrev pub row_of : ℕ → ℕ → Option Row
 row_of kind t = find 0 0 (table kind) t
 
 -- the first of some rows
-abbrev pub first : Table → Slot
-first [] = End
-first (r ∷ rs) = Holds r.tag r.optional
+abbrev pub first : Table → Option Slot
+first [] = None
+first (r ∷ rs) = Some (record { tag = r.tag; optional = r.optional })
 
-abbrev pub row_at : ℕ → ℕ → Slot
+abbrev pub row_at : ℕ → ℕ → Option Slot
 row_at kind index = first (drop index (table kind))
 
 -- the last mandatory row, after i rows of which number `from` was the last

@@ -4,6 +4,5 @@ pub mod Turns
 pub mod Layouts
 pub mod Rooms
 pub mod Formats
-pub mod Scans
 pub mod Arms
 pub mod Xor

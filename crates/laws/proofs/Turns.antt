@@ -1,12 +1,12 @@
 -- One turn of a loop, as a law on lists and numbers: copies, maps, digits read and digits stored. Assumes nothing.
 use mathlib.Core.Path.{◌≡◌, refl, sym, ap}
 use mathlib.Core.Bool.{Bool, true, ◌&&◌, and_assoc}
-use mathlib.Core.List.{List, [], ◌∷◌, ◌++◌, map, append-nil}
+use mathlib.Core.List.{List, [], ◌∷◌, ◌++◌, map}
 use Prim.Native.Nat.{ℕ, zero, suc, ◌+◌, ◌-◌, ◌*◌, ◌/◌, ◌%◌, ◌^◌, ◌≤◌, ◌<◌}
 use native.Mathlib.Nat.{not-suc-le-zero, le_of_suc-le-suc, pow-suc, div-div-eq-div-mul, pow-le-pow_right, mul-le-mul_left, mul-le-mul_right, add-mul, mul_assoc, sub_self, pow-zero, div-one}
 use native.Mathlib.Numerals.{add-one}
 use native.Mathlib.Omega.{arith}
-use lib.ListN.{length, get_or, take, drop, set, drop_of_length-le, length-drop}
+use lib.ListN.{length, get_or, take, drop, set, length-drop}
 use lib.Seq.{drop-cons, take_all, take-suc}
 use Rattle.laws.specs.Digits.{digits, read_on, value, stored}
 use Rattle.laws.specs.Tests.{each}
@@ -31,9 +31,6 @@ rest s at = take_all (length s - at) (drop at s) (rw length-drop (omega arith))
 abbrev pub mapped : (ℕ → ℕ) → ℕ → List ℕ → List ℕ
 mapped f k v = map f (take k v) ++ drop k v
 
-pub mapped-all : (f : ℕ → ℕ) (k : ℕ) (v : List ℕ) → length v ≤ k → mapped f k v ≡ map f v
-mapped-all f k v h = rw (take_all, drop_of_length-le) (append-nil _)
-
 mapped-suc : (f : ℕ → ℕ) (k : ℕ) (v : List ℕ) → k < length v → set (mapped f k v) k (f (get_or (mapped f k v) k 0)) ≡ mapped f (suc k) v
 mapped-suc f k [] h = absurd (not-suc-le-zero h)
 mapped-suc f zero (x ∷ v) h = refl
@@ -50,17 +47,6 @@ each_last f (y ∷ xs) x = rw (each_last f xs x) (sym (and_assoc (f y) (each f x
 
 pub each-taken : (f : ℕ → Bool) (i : ℕ) (l : List ℕ) → i < length l → each f (take (i + 1) l) ≡ (each f (take i l) && f (get_or l i 0))
 each-taken f i l h = rw (take_next l i h) (each_last f (take i l) (get_or l i 0))
-
--- ---- a copy from the front
-
-copied-suc : (k : ℕ) (s d : List ℕ) → k < length s → k < length d → set (take k s ++ drop k d) k (get_or s k 0) ≡ take (suc k) s ++ drop (suc k) d
-copied-suc k [] d h g = absurd (not-suc-le-zero h)
-copied-suc k (x ∷ s) [] h g = absurd (not-suc-le-zero g)
-copied-suc zero (x ∷ s) (y ∷ d) h g = refl
-copied-suc (suc k) (x ∷ s) (y ∷ d) h g = ap (λ (l : List ℕ). x ∷ l) (copied-suc k s d (le_of_suc-le-suc h) (le_of_suc-le-suc g))
-
-pub copied_next : (k : ℕ) (s d : List ℕ) → k < length s → k < length d → set (take k s ++ drop k d) k (get_or s k 0) ≡ take (k + 1) s ++ drop (k + 1) d
-copied_next k s d h g = rw add-one (copied-suc k s d h g)
 
 -- ---- digits read from the front
 
@@ -80,16 +66,6 @@ read_fits b n i h g =
 
 pub pow-fits : (b i k : ℕ) → 1 < b → i < k → 255 * b ^ (i + 1) ≤ 255 * b ^ k
 pow-fits b i k h g = mul-le-mul_left 255 (pow-le-pow_right (omega arith) (omega arith))
-
--- in base 256 it stays below the power
-pub byte_fits : (n b i : ℕ) → n < 256 ^ i → b < 256 → n * 256 + b < 256 ^ (i + 1)
-byte_fits n b i h g = rw (add-one, pow-suc) (omega arith)
-
-pub eight-bytes : (i : ℕ) → i < 8 → 256 ^ (i + 1) ≤ 256 ^ 8
-eight-bytes i h =
-    let p : 0 < 256 = omega arith in
-    let l : i + 1 ≤ 8 = omega arith in
-    pow-le-pow_right p l
 
 -- ---- digits stored from the end
 

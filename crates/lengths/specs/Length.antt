@@ -1,10 +1,9 @@
 -- 01, "Container form": how a length is written, and what is read where one is due.
-use Rattle.std.specs.Prelude.{ℕ, suc, ◌+◌, ◌-◌, ◌/◌, ◌%◌, ◌^◌, ◌<◌, ◌≤◌, ◌≡◌, cond, List, [], ◌∷◌, length, take, ltb, leb}
+use Rattle.std.specs.Prelude.{ℕ, suc, ◌+◌, ◌-◌, ◌/◌, ◌%◌, ◌^◌, ◌<◌, ◌≤◌, ◌≡◌, cond, List, [], ◌∷◌, length, take, ltb, leb, Some, None, Option as Maybe}
 use Rattle.std.proofs.Math.Option.{Option, none, some}
 use Rattle.laws.specs.Digits.{value}
 use Rattle.laws.specs.Layout.{number}
 use Rattle.lengths.specs.declared.Length.{Length}
-use Rattle.lengths.specs.declared.Length.TheVariants.{Is, Bad}
 
 -- 004, assumption 1.0, which 2026-01 takes: "up to 127 one byte, above that 81 to 84 with any count of bytes that holds the number". The bytes p spell the
 -- length n: it is under 128 and they are its one byte; or it is not, and they are 80 and the count, and the number in so many bytes
@@ -41,9 +40,9 @@ unfoldable pub read_length : List ℕ → Option Spelt
 read_length s = by_first s
 
 -- the same as the code answers it, for bytes that start at an offset: the number, and the offset of what follows
-abbrev pub told : ℕ → Option Spelt → Length
-told at none = Bad
-told at (some l) = Is l.number (at + l.width)
+abbrev pub told : ℕ → Option Spelt → Maybe Length
+told at none = None
+told at (some l) = Some (record { number = l.number; next = at + l.width })
 
-unfoldable pub length_at : ℕ → List ℕ → Length
+unfoldable pub length_at : ℕ → List ℕ → Maybe Length
 length_at at s = told at (read_length s)

@@ -8,46 +8,49 @@ ghost use Rattle.lengths.specs.Length.{length_at, length_bytes};
 
 use room::{put_byte, put_pair};
 
-// What stands where a length is due.
+// A length, and the offset of what follows it.
 #[derive(Clone, Copy)]
-pub enum Length {
-    // The length, and the offset of what follows it.
-    Is(usize, usize),
-    // Cut short, or not in the permitted form.
-    Bad,
+pub struct Length {
+    pub number: usize,
+    pub next: usize,
 }
 
 // The length at `at`, whose first byte counts so many bytes after it: these hold 128 or more. However large the number, no sum of
 // it is made here: who asks compares it with the bytes that are left.
-fn counted(c: &[u8], at: usize, count: usize) -> Length
+#[tactic(auto, using(crate::proofs::Reading::counting))]
+fn counted(c: &[u8], at: usize, count: usize) -> Option<Length>
     requires { (at < length c.now) × (count ≤ 4) × (get_or c.now at 0 ≡ 0x80 + count) }
     ensures { result ≡ length_at at (drop at c.now) }
 {
     if c.len() - at <= count {
-        return Length::Bad;
+        return None;
     }
     let number = numbers::number(c, at + 1, count) as usize;
     if number < 128 {
-        return Length::Bad;
+        return None;
     }
-    Length::Is(number, at + 1 + count)
+    Some(Length {
+        number,
+        next: at + 1 + count,
+    })
 }
 
 // The length at `at`: "up to 127 one byte, above that 81 to 84 with any count of bytes that holds the number", and nothing else
 // is one. 80 needs no test of its own: it counts no bytes, and these hold no number over 127. In the fewest bytes a length over
 // 127 takes one or two more: these are told apart, so that no loop is gone through for them.
-pub fn read_length(c: &[u8], at: usize) -> Length
+#[tactic(auto, using(crate::proofs::Reading::reading))]
+pub fn read_length(c: &[u8], at: usize) -> Option<Length>
     ensures { result ≡ length_at at (drop at c.now) }
 {
-    if c.len() <= at {
-        return Length::Bad;
-    }
-    let first = numbers::index(c[at]);
+    let first = usize::from(*c.get(at)?);
     if first < 0x80 {
-        return Length::Is(first, at + 1);
+        return Some(Length {
+            number: first,
+            next: at + 1,
+        });
     }
     if 0x84 < first {
-        return Length::Bad;
+        return None;
     }
     let count = first - 0x80;
     match count {
@@ -58,6 +61,7 @@ pub fn read_length(c: &[u8], at: usize) -> Length
 }
 
 // "Writing keeps the fewest bytes": those of n go into the room.
+#[tactic(auto, unfolding(crate::specs::Length::length_bytes))]
 pub fn write_length(n: usize, out: &mut [u8]) -> usize
     ensures { Put (length_bytes n) out.old out.new result }
 {
@@ -72,6 +76,7 @@ pub fn write_length(n: usize, out: &mut [u8]) -> usize
 }
 
 // How many bytes that is. A caller's sums want that it is one to three.
+#[tactic(auto, unfolding(crate::specs::Length::length_bytes))]
 pub fn length_width(n: usize) -> usize
     ensures { (result ≡ length (length_bytes n)) × (1 ≤ result) × (result ≤ 3) }
 {

@@ -1,6 +1,6 @@
 -- The tested form is true exactly where the record's table is laid out. Assumes nothing.
 use Prim.Native.Nat.{ℕ, zero, suc, ◌+◌, ◌*◌, ◌≤◌}
-use mathlib.Core.Path.{◌≡◌, sym}
+use mathlib.Core.Path.{◌≡◌}
 use mathlib.Core.Logic.{◌↔◌}
 use mathlib.Core.Bool.{Bool, true, cond, ◌&&◌}
 use mathlib.Core.List.{List}
@@ -9,7 +9,7 @@ use native.Mathlib.Nat.{add-zero}
 use lib.ListN.{length, drop, length-drop}
 use lib.Seq.{drop-drop}
 use lib.Dec.{leb, eqb, leb-zero}
-use borrow.Author.Tests.{le-leb, leb-true, eq-eqb, eqb-true}
+use borrow.Author.Tests.{le-leb, eq-eqb}
 use Rattle.laws.specs.Bytes.{Bytes}
 use Rattle.laws.specs.Layout.{field}
 use Rattle.laws.specs.Format.{Format, end, breaks, times}
@@ -17,9 +17,8 @@ use Rattle.laws.proofs.Cases.{and-true}
 use Rattle.laws.proofs.Formats.{skim, cond-and}
 use Rattle.minutiae.specs.Minutiae.{point, view, minutiae, IsMinutiae}
 use Rattle.minutiae.specs.Judged.{point_holds, points_hold, view_head, extent, record_head, is_minutiae}
-use Rattle.records.specs.declared.Extent.TheVariants.{Takes}
+use Rattle.std.specs.Prelude.{Some}
 use Rattle.records.proofs.Exact.{Extends, whole-exact}
-use Rattle.minutiae.proofs.Ways.{takes}
 use Rattle.minutiae.proofs.Tested.{view-told}
 use Rattle.minutiae.proofs.Agreed.{minutiae-agrees}
 
@@ -52,10 +51,15 @@ view-judged k at d =
     let w : at + (6 + 6 * count at d) ≡ at + (4 + 6 * count at d) + 2 = omega arith in
     simp (a, b, c, g, w, points-judged, drop-drop, add-zero, leb-zero, cond-and)
 
+takes : (s : List ℕ) (m : ℕ) → m ≡ field s 3 1 → 6 + 6 * m ≤ length s → view_head s ≡ true → leb m 128 ≡ true → points_hold m (drop 4 s) ≡ true
+    → eqb (field s (4 + 6 * m) 2) 0 ≡ true → extent s ≡ Some (6 + 6 * m)
+unfolding extent
+takes s m c l h f p z = rw (le-leb 6 (length s) (omega arith), h, ← c, f, le-leb _ _ l, p, z)
+
 views : Extends view extent
 views = record { test = viewed; size = λ at d. 6 + 6 * count at d; judged = view-judged; told = told; tells = tells }
   where
-    told : (at : ℕ) (d : List ℕ) (n : ℕ) → extent (drop at d) ≡ Takes n → (viewed at d ≡ true) × (n ≡ 6 + 6 * count at d)
+    told : (at : ℕ) (d : List ℕ) (n : ℕ) → extent (drop at d) ≡ Some n → (viewed at d ≡ true) × (n ≡ 6 + 6 * count at d)
     told at d n e =
         let t = view-told (drop at d) e in
         let c : field (drop at d) 3 1 ≡ count at d = simp drop-drop in
@@ -63,7 +67,7 @@ views = record { test = viewed; size = λ at d. 6 + 6 * count at d; judged = vie
         let zeros : field d (at + (4 + 6 * count at d)) 2 ≡ 0 = simp drop-drop at (rw c at t.zeros) in
         (rw (t.head, le-leb _ _ (rw c at t.few), points, eq-eqb _ _ zeros), rw c at t.size)
 
-    tells : (at : ℕ) (d : List ℕ) → viewed at d ≡ true → at + (6 + 6 * count at d) ≤ length d → extent (drop at d) ≡ Takes (6 + 6 * count at d)
+    tells : (at : ℕ) (d : List ℕ) → viewed at d ≡ true → at + (6 + 6 * count at d) ≤ length d → extent (drop at d) ≡ Some (6 + 6 * count at d)
     tells at d e i =
         let m : ℕ = count at d in
         let a = and-true (view_head (drop at d)) _ e in
@@ -71,8 +75,7 @@ views = record { test = viewed; size = λ at d. 6 + 6 * count at d; judged = vie
         let p = and-true (points_hold m (drop (at + 4) d)) _ b.1 in
         let c : m ≡ field (drop at d) 3 1 = simp drop-drop in
         let l : 6 + 6 * m ≤ length (drop at d) = rw length-drop (omega arith) in
-        let zeros : field (drop at d) (4 + 6 * m) 2 ≡ 0 = simp drop-drop (eqb-true _ _ p.1) in
-        sym (takes (drop at d) (omega arith) (sym a.0) m c (leb-true m 128 b.0) l (rw drop-drop (sym p.0)) zeros)
+        takes (drop at d) m c l a.0 b.0 (rw drop-drop p.0) (rw drop-drop p.1)
 
 record-judged : (d : List ℕ) → skim (minutiae (length d)) 0 d ≡ cond (record_head d) (skim (times 2 view (end tt)) 26 d) (breaks tt)
 unfolding record_head

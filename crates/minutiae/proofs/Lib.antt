@@ -1,4 +1,4 @@
-pub mod Ways
+pub mod Listed
 pub mod Tested
 pub mod Agreed
 pub mod Exact

@@ -5,8 +5,7 @@ use Rattle.laws.specs.Tests.{all}
 use Rattle.laws.specs.Format.{◌or◌}
 use Rattle.records.specs.Fills.{whole}
 use Rattle.minutiae.specs.Minutiae.{version, typed, quality}
-use Rattle.records.specs.declared.Extent.{Extent}
-use Rattle.records.specs.declared.Extent.TheVariants.{Takes, None}
+use Rattle.std.specs.Prelude.{Option, Some, None}
 
 -- a point
 abbrev pub point_tests : List ℕ → List Bool
@@ -30,10 +29,10 @@ view_head s = all (view_tests s)
 abbrev pub size_tests : ℕ → List ℕ → List Bool
 size_tests m s = leb m 128 ∷ leb (6 + 6 * m) (length s) ∷ points_hold m (drop 4 s) ∷ eqb (field s (4 + 6 * m) 2) 0 ∷ []
 
-abbrev pub sized : ℕ → List ℕ → Extent
-sized m s = cond (all (size_tests m s)) (Takes (6 + 6 * m)) None
+abbrev pub sized : ℕ → List ℕ → Option ℕ
+sized m s = cond (all (size_tests m s)) (Some (6 + 6 * m)) None
 
-unfoldable pub extent : List ℕ → Extent
+unfoldable pub extent : List ℕ → Option ℕ
 extent s = cond (leb 6 (length s) && view_head s) (sized (field s 3 1) s) None
 
 -- the record

@@ -1,21 +1,20 @@
-// Numbers that stand in bytes, most significant byte first, and the lesser of two.
+// Numbers that stand in bytes, most significant digit first.
 #![tactic(auto)]
 
-ghost use Rattle.std.specs.Prelude.{◌≡◌, ◌+◌, ◌^◌, ◌<◌, ◌≤◌, min, length};
-ghost use Rattle.laws.specs.Layout.{field};
+ghost use Rattle.std.specs.Prelude.{◌≡◌, ℕ, ◌+◌, ◌-◌, ◌*◌, ◌^◌, ◌<◌, ◌≤◌, length};
+ghost use Rattle.laws.specs.Digits.{value};
+ghost use Rattle.laws.specs.Layout.{part, field};
 
-// A byte as a number: its value, and that it is one of 256.
-pub fn wide(x: u8) -> u64
-    ensures { (result ≡ x) × (result < 256) }
+// The number whose `width` digits in `BASE` stand at `at`, a byte each. A byte may be more than a digit.
+pub fn number_in<const BASE: u64>(s: &[u8], at: usize, width: usize) -> u64
+    requires { (at + width ≤ length s.now) × (1 < BASE) × (255 * BASE ^ width < 2 ^ 64 * (BASE - 1) + 255) }
+    ensures { (result ≡ value BASE (part s.now at width)) × (result * (BASE - 1) + 255 ≤ 255 * BASE ^ width) }
 {
-    x as u64
-}
-
-// The same as an index.
-pub fn index(x: u8) -> usize
-    ensures { (result ≡ x) × (result < 256) }
-{
-    x as usize
+    let mut n = 0;
+    for &digit in &s[at..at + width] {
+        n = n * BASE + u64::from(digit);
+    }
+    n
 }
 
 // The number that stands at `at` in `width` bytes.
@@ -23,20 +22,5 @@ pub fn number(s: &[u8], at: usize, width: usize) -> u64
     requires { (at + width ≤ length s.now) × (width ≤ 8) }
     ensures { (result ≡ field s.now at width) × (result < 256 ^ width) }
 {
-    let mut n: u64 = 0;
-    let mut i: usize = 0;
-    while i < width {
-        n = n * 256 + wide(s[at + i]);
-        i += 1;
-    }
-    n
-}
-
-pub fn lesser(a: usize, b: usize) -> usize
-    ensures { result ≡ min a b }
-{
-    if a < b {
-        return a;
-    }
-    b
+    number_in::<256>(s, at, width)
 }

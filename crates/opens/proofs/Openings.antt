@@ -12,7 +12,8 @@ use borrow.Author.Tests.{eqb-true, not-true}
 use Rattle.laws.specs.Tests.{all_below}
 use Rattle.laws.proofs.Cases.{and-true, along}
 use Rattle.kinds.proofs.Arms.{Others, among, none-among}
-use Rattle.kinds.specs.Tables.{Lengths, Entry, Table, table, Permitted}
+use Rattle.kinds.specs.Tables.{Entry, Table, table, Permitted}
+use Rattle.kinds.specs.declared.Lengths.{Lengths}
 use Rattle.kinds.specs.declared.ValueRule.{ValueRule}
 use Rattle.kinds.specs.declared.ValueRule.TheVariants.{Free, Fascn, Uuid, Expiry, Model, Application, Policy, Text, Date, Fingers, Face, Iris, Certificate, CertInfo}
 use Rattle.rules.specs.Rules.{Keeps}
@@ -131,6 +132,10 @@ none_is (opens_holder tag) b f e = absurd (true≢false (sym e ∙ f))
 -- all but these
 abbrev something_open : List ℕ
 something_open = 1 ∷ 2 ∷ 3 ∷ 4 ∷ 6 ∷ 7 ∷ 12 ∷ []
+
+-- none of them
+pub other_kind : (kind : ℕ) → (kind ≡ 1 → ⊥) → (kind ≡ 2 → ⊥) → (kind ≡ 3 → ⊥) → (kind ≡ 4 → ⊥) → (kind ≡ 6 → ⊥) → (kind ≡ 7 → ⊥) → (kind ≡ 12 → ⊥) → Others something_open kind Unit
+other_kind kind a b c d e f g = (((((((tt, a), b), c), d), e), f), g)
 
 pub nothing-open : (kind : ℕ) → Others something_open kind Unit → opens_none ≡ opening kind
 unfolding all_below

@@ -1,9 +1,10 @@
 -- OPEN: the values that the map shows of the rows that are open. Assumes nothing.
-use Prim.Native.Nat.{ℕ, ◌-◌, ◌<◌}
+use Prim.Native.Nat.{ℕ, ◌-◌, ◌<◌, ◌≤◌}
 use mathlib.Core.Logic.{inl, inr}
 use mathlib.Core.Path.{◌≡◌, refl, sym, ap, ap₂, ◌∙◌}
 use mathlib.Core.List.{List, []}
 use native.Mathlib.Nat.{zero-sub}
+use native.Mathlib.Decide.{ℕ_discrete}
 use native.Mathlib.Omega.{arith}
 use lib.Dec.{eqb}
 use lib.ListN.{length, drop, get_or, length-take, length-drop}
@@ -24,7 +25,11 @@ use Rattle.kinds.specs.declared.ValueRule.TheVariants.{Fascn, Expiry, Fingers, F
 use Rattle.container.specs.Container.{Values, Allowed}
 use Rattle.container.specs.Map.{row_value, row_values}
 use Rattle.opens.specs.Open.{Open, bytes_of, holder, card, policy, issuer, agency_of, system_of, in_header, tagged_value, open_of}
-use Rattle.opens.specs.Day.{day_number}
+use Rattle.container.specs.Spans.{absent}
+use Rattle.container.specs.declared.rows.Span.{Span}
+use Rattle.container.proofs.Allowing.{allows-exact, shown-bytes}
+use Rattle.container.specs.Map.{allows}
+use Rattle.std.specs.Prelude.{Option, unwrap_or, IsTrue}
 use Rattle.opens.proofs.Openings.{value_keeps}
 
 -- ---- the FASC-N of a record that is too short
@@ -37,38 +42,42 @@ no_header v h =
 
 -- ---- an expiry that is allowed
 
-pub expiry-number : (today : ℕ) (vs : Values) → Allowed today (table 2) vs → let v = tagged_value (table 2) vs 0x35 in day_number (date_of v) ≡ text_number v
+pub expiry-number : (today : ℕ) (vs : Values) → Allowed today (table 2) vs → let v = tagged_value (table 2) vs 0x35 in unwrap_or (date_of v) 0 ≡ text_number v
 expiry-number today vs a =
     let v = tagged_value (table 2) vs 0x35 in
     let (n, r, w) = value_keeps today 0x35 (table 2) vs a Expiry refl in
-    ap day_number ((text-exact v n).1 r) ∙ sym (text-number v n r)
+    ap (λ (d : Option ℕ). unwrap_or d 0) ((text-exact v n).1 r) ∙ sym (text-number v n r)
 
 -- ---- what is open of each kind
 
 abbrev holder_of : List ℕ → Open
 holder_of v = holder (origin_of (in_header v)).agency (origin_of (in_header v)).system
 
-module _ (starts ends c : List ℕ) where
+module _ (rows : List Span) (c : List ℕ) where
   -- the bytes of row i
   abbrev pub row : ℕ → List ℕ
-  row i = part c (get_or starts i 0) (get_or ends i 0 - get_or starts i 0)
+  row i = part c (get_or rows i absent).from ((get_or rows i absent).to - (get_or rows i absent).from)
 
-  pub row-bytes : (i : ℕ) → bytes_of (row_value starts ends c i) ≡ row i
+  pub row-bytes : (i : ℕ) → bytes_of (row_value rows c i) ≡ row i
   row-bytes i =
-      elim (which (eqb (get_or ends i 0) 0)) [
-        | inl q ↦ rw (q, eqb-true (get_or ends i 0) 0 q, zero-sub)
+      elim (which (eqb (get_or rows i absent).to 0)) [
+        | inl q ↦ rw (q, eqb-true (get_or rows i absent).to 0 q, zero-sub)
         | inr q ↦ rw q
       ]
 
   abbrev pub values : ℕ → Values
-  values kind = row_values starts ends c (length (table kind)) 0
+  values kind = row_values rows c (length (table kind)) 0
+
+  -- a map's values are allowed where the test says so
+  pub are-allowed : (kind today : ℕ) → Bytes c → IsTrue (allows today (table kind) (values kind)) → Allowed today (table kind) (values kind)
+  are-allowed kind today b t = (allows-exact today (table kind) (values kind) (shown-bytes rows c (length (table kind)) 0 b)).0 t
 
   pub card-open : (today : ℕ) → Allowed today (table 2) (values 2)
-      → card (origin_of (row 1)).agency (origin_of (row 1)).system (day_number (date_of (row 5))) ≡ open_of 2 (values 2)
+      → card (origin_of (row 1)).agency (origin_of (row 1)).system (unwrap_or (date_of (row 5)) 0) ≡ open_of 2 (values 2)
   unfolding row_values
   card-open today a =
       let o = origin-exact _ (value_keeps today 0x30 (table 2) (values 2) a Fascn refl) in
-      ap₂ (λ (f e : List ℕ). card (origin_of f).agency (origin_of f).system (day_number (date_of e))) (sym (row-bytes 1)) (sym (row-bytes 5))
+      ap₂ (λ (f e : List ℕ). card (origin_of f).agency (origin_of f).system (unwrap_or (date_of e) 0)) (sym (row-bytes 1)) (sym (row-bytes 5))
       ∙ (λ i. card (o.0 i) (o.1 i) (expiry-number today (values 2) a i))
 
   pub policy-open : policy (row 1) ≡ open_of 3 (values 3)
@@ -81,23 +90,36 @@ module _ (starts ends c : List ℕ) where
 
   -- the first row of three kinds is a biometric record, which has a FASC-N in its header
   module _ (bytes : Bytes c) where
-    header-open : (b : Biometric) → IsBiometric b (bytes_of (row_value starts ends c 0))
-        → let f = in_header (bytes_of (row_value starts ends c 0)) in holder_of (row 0) ≡ holder (agency_of f) (system_of f)
+    header-open : (b : Biometric) → IsBiometric b (bytes_of (row_value rows c 0))
+        → let f = in_header (bytes_of (row_value rows c 0)) in holder_of (row 0) ≡ holder (agency_of f) (system_of f)
     header-open b k =
-        let v : List ℕ = bytes_of (row_value starts ends c 0) in
-        let w : Bytes v = rw (row-bytes 0) (below-take 256 (get_or ends 0 0 - get_or starts 0 0) (drop (get_or starts 0 0) c) (below-drop 256 (get_or starts 0 0) c bytes)) in
+        let v : List ℕ = bytes_of (row_value rows c 0) in
+        let w : Bytes v = rw (row-bytes 0) (below-take 256 ((get_or rows 0 absent).to - (get_or rows 0 absent).from) (drop (get_or rows 0 absent).from c) (below-drop 256 (get_or rows 0 absent).from c bytes)) in
         let o = origin-exact (in_header v) (fascn-inside b v w k) in
         ap holder_of (sym (row-bytes 0)) ∙ (λ i. holder (o.0 i) (o.1 i))
 
     module _ (today : ℕ) where
-      pub fingers-open : Allowed today (table 6) (values 6) → holder_of (row 0) ≡ open_of 6 (values 6)
+      fingers-open : Allowed today (table 6) (values 6) → holder_of (row 0) ≡ open_of 6 (values 6)
       unfolding row_values
       fingers-open a = header-open fingers (value_keeps today 0xBC (table 6) (values 6) a Fingers refl)
 
-      pub face-open : Allowed today (table 7) (values 7) → holder_of (row 0) ≡ open_of 7 (values 7)
+      face-open : Allowed today (table 7) (values 7) → holder_of (row 0) ≡ open_of 7 (values 7)
       unfolding row_values
       face-open a = header-open face (value_keeps today 0xBC (table 7) (values 7) a Face refl)
 
-      pub iris-open : Allowed today (table 12) (values 12) → holder_of (row 0) ≡ open_of 12 (values 12)
+      iris-open : Allowed today (table 12) (values 12) → holder_of (row 0) ≡ open_of 12 (values 12)
       unfolding row_values
       iris-open a = header-open iris (value_keeps today 0xBC (table 12) (values 12) a Iris refl)
+
+      abbrev pub Shows : ℕ → Type 0
+      Shows kind = Allowed today (table kind) (values kind) → holder_of (row 0) ≡ open_of kind (values kind)
+
+      pub twelve : (kind : ℕ) → kind ≡ 12 → Shows kind
+      twelve kind e = rw e iris-open
+
+      pub six_or_seven : (kind : ℕ) → 6 ≤ kind → kind < 8 → Shows kind
+      six_or_seven kind h l =
+          elim (ℕ_discrete kind 6) [
+            | yes e ↦ rw e fingers-open
+            | no n ↦ let e : kind ≡ 7 = omega arith in rw e face-open
+          ]

@@ -87,48 +87,49 @@ module _ (s : State) (b : ℕ) where
 at-phase : (s : State) (p : ℕ) → s.phase ≡ p → at p s.value s.left ≡ s
 at-phase s p h = ap (λ (p : ℕ). at p s.value s.left) (sym h)
 
-module _ (s : State) (l : List ℕ) (i : ℕ) (h : i < length l) where
+module _ (s : State) (l : List ℕ) where
   -- the rest of the piece is passed over
-  pub jumps : (k n next : ℕ) → s.phase ≡ 7 → k ≤ s.value → n ≡ s.value - k → next ≡ i + k → 0 < k → next ≤ length l → Turns s l i (record { state = at 7 n s.left; next = next })
-  jumps k n next p less e f some inside =
+  pub jumps : s.phase ≡ 7 → 0 < length l → length l ≤ s.value → Turns s l (at s.phase (s.value - length l) s.left) []
+  unfolding over
+  jumps p some less =
       record {
-        same = rw (e, f, ← drop-drop) (skips k s.value s.left (drop i l) less (rw length-drop (omega arith)) ∙ ap (λ (t : State). over t (drop i l)) (at-phase s 7 p));
-        on = omega arith;
-        within = inside;
+        same = passed_all;
+        shorter = some;
       }
+    where
+      passed_all : at s.phase (s.value - length l) s.left ≡ over s l
+      passed_all =
+          ap (λ (p : ℕ). at p (s.value - length l) s.left) p
+          ∙ ap (over (at 7 (s.value - length l) s.left)) (sym (drop_of_length-le l (omega arith)))
+          ∙ skips (length l) s.value s.left l less (omega arith)
+          ∙ ap (λ (t : State). over t l) (at-phase s 7 p)
 
   -- the rest of a container is
-  pub lands : (t : State) (next : ℕ) → s.phase ≡ 7 → s.value < length l - i → t ≡ passed s.left → next ≡ i + s.value + 1 → Turns s l i (record { state = t; next = next })
-  lands t next p less e f =
+  pub lands : (t : State) → s.phase ≡ 7 → s.value < length l → t ≡ passed s.left → Turns s l t (drop (s.value + 1) l)
+  lands t p less e =
       record {
-        same = rw (e, f, add-one, ← behind, ← drop-drop) (passes s.value s.left (drop i l) (rw length-drop less) ∙ ap (λ (t : State). over t (drop i l)) (at-phase s 7 p));
-        on = omega arith;
-        within = omega arith;
+        same = rw (e, add-one) (passes s.value s.left l less ∙ ap (λ (t : State). over t l) (at-phase s 7 p));
+        shorter = rw length-drop (omega arith);
       }
-    where
-      behind : i + suc s.value ≡ suc (i + s.value)
-      behind = omega arith
 
   -- an entry's kind and length are read
-  pub opens : (t : State) (n : ℕ) → Bytes l → s.phase ≡ 2 → 5 ≤ length l - i → n ≡ field l (i + 1) 4 → t ≡ long n s.left → Turns s l i (record { state = t; next = i + 5 })
-  opens t n b p whole e f =
+  pub opens : (t : State) → Bytes l → s.phase ≡ 2 → 5 ≤ length l → t ≡ long (field l 1 4) s.left → Turns s l t (drop 5 l)
+  opens t b p whole e =
       record {
-        same = rw (f, e) (sym (ap (over s) front ∙ ap (λ (u : State). over u (get_or l i 0 ∷ (part l (i + 1) 4 ++ drop (i + 5) l))) (sym (at-phase s 2 p))
-            ∙ head s.left s.value (get_or l i 0) (part l (i + 1) 4) (drop (i + 5) l) (below-take 256 4 (drop (i + 1) l) (below-drop 256 (i + 1) l b)) (part-long l (i + 1) 4 (omega arith))));
-        on = omega arith;
-        within = omega arith;
+        same = rw e (sym (ap (over s) front ∙ ap (λ (u : State). over u (get_or l 0 0 ∷ (part l 1 4 ++ drop 5 l))) (sym (at-phase s 2 p))
+            ∙ head s.left s.value (get_or l 0 0) (part l 1 4) (drop 5 l) (below-take 256 4 (drop 1 l) (below-drop 256 1 l b)) (part-long l 1 4 (omega arith))));
+        shorter = rw length-drop (omega arith);
       }
     where
-      four-on : i + 1 + 4 ≡ i + 5
-      four-on = omega arith
+      front : l ≡ get_or l 0 0 ∷ (part l 1 4 ++ drop 5 l)
+      front = from_one l 0 (omega arith) ∙ ap (λ (u : List ℕ). get_or l 0 0 ∷ u) (sym (take-append-drop 4 (drop 1 l)) ∙ ap (λ (u : List ℕ). part l 1 4 ++ u) (drop-drop 4 1 l))
 
-      front : drop i l ≡ get_or l i 0 ∷ (part l (i + 1) 4 ++ drop (i + 5) l)
-      front = from_one l i h ∙ ap (λ (u : List ℕ). get_or l i 0 ∷ u) (sym (take-append-drop 4 (drop (i + 1) l)) ∙ ap (λ (u : List ℕ). part l (i + 1) 4 ++ u) (drop-drop 4 (i + 1) l ∙ ap (λ (k : ℕ). drop k l) four-on))
-
-  pub byte : (t : State) → t ≡ one s (get_or l i 0) → Turns s l i (record { state = t; next = i + 1 })
-  unfolding over
-  byte t e = record { same = rw (e, add-one, drop-cons l i 0); on = omega arith; within = omega arith }
-
-pub ended : (s : State) (l : List ℕ) (i : ℕ) → length l ≤ i → s ≡ over s (drop i l)
+pub byte : (s : State) (l : List ℕ) → 0 < length l → Turns s l (one s (get_or l 0 0)) (drop 1 l)
 unfolding over
-ended s l i h = rw (drop_of_length-le l h)
+byte s [] h = absurd (omega arith)
+byte s (x ∷ l) h = record { same = refl; shorter = omega arith }
+
+pub ended : (s : State) (l : List ℕ) → length l ≡ 0 → s ≡ over s l
+unfolding over
+ended s [] h = refl
+ended s (x ∷ l) h = absurd (omega arith)

@@ -1,11 +1,10 @@
 -- A folder gone over byte by byte, as the code goes. Nothing of the request is said here: `proofs/Exact.antt` shows that the bytes of all pieces end in a whole
 -- folder exactly where some entries spell them.
-use Rattle.std.specs.Prelude.{ℕ, ◌+◌, ◌*◌, ◌-◌, ◌%◌, ◌<◌, ◌≤◌, ◌≡◌, cond, List, [], ◌∷◌, length, drop, eqb, leb, ltb}
+use Rattle.std.specs.Prelude.{ℕ, ◌+◌, ◌*◌, ◌-◌, ◌%◌, ◌<◌, ◌≡◌, cond, List, [], ◌∷◌, length, eqb, leb, ltb}
 use Rattle.dates.specs.Date.{is_date}
 use Rattle.verdicts.specs.Verdicts.{number_of}
 use Rattle.verdicts.specs.declared.Fault.TheVariants.{NoDate, TornFolder}
 use Rattle.pieces.specs.declared.State.{State}
-use Rattle.pieces.specs.declared.Turned.{Turned}
 
 abbrev pub at : ℕ → ℕ → ℕ → State
 at phase value left = record { phase = phase; value = value; left = left }
@@ -44,11 +43,10 @@ abbrev pub over_all : State → List (List ℕ) → State
 over_all s [] = s
 over_all s (p ∷ ps) = over_all (over s p) ps
 
--- a turn moves on within the piece, and leaves the state at its end as it is
-pub record Turns (s : State) (piece : List ℕ) (i : ℕ) (r : Turned) : Type 0 where
-  pub same : over r.state (drop r.next piece) ≡ over s (drop i piece)
-  pub on : i < r.next
-  pub within : r.next ≤ length piece
+-- a turn leaves less of the piece to go over, and the state at its end as it is
+pub record Turns (s : State) (piece : List ℕ) (t : State) (rest : List ℕ) : Type 0 where
+  pub same : over t rest ≡ over s piece
+  pub shorter : length rest < length piece
 
 -- "32, folder cut short, bytes left over or count above 256 ..; 2 for today comes first of all"
 abbrev pub ended : ℕ → State → ℕ

@@ -10,13 +10,11 @@ ghost use Rattle.plain.specs.Quality.{signed, is_quality};
 pub fn at(s: &[u8], i: usize) -> u8
     ensures { result ≡ get_or s.now i 0 }
 {
-    if s.len() <= i {
-        return 0;
-    }
-    s[i]
+    s.get(i).copied().unwrap_or(0)
 }
 
 // "High four bits of the byte at offset 6 are 1, 4 or 5; top two bits at offset 8 are 10."
+#[tactic(auto, unfolding(crate::specs::Plain::is_uuid))]
 pub fn is_uuid(s: &[u8]) -> bool
     ensures { result ≡ is_uuid s.now }
 {
@@ -26,6 +24,7 @@ pub fn is_uuid(s: &[u8]) -> bool
 }
 
 // "First byte: 80, 02 and 01 clear, 40 set, 04 only with 08. Second byte: 10 or 20 hex if 20 is set in the first, else 00."
+#[tactic(auto, unfolding(crate::specs::Plain::is_policy))]
 pub fn is_policy(s: &[u8]) -> bool
     ensures { result ≡ is_policy s.now }
 {
@@ -52,11 +51,8 @@ pub fn is_text(s: &[u8]) -> bool
     ensures { result ≡ is_text s.now }
 {
     let mut text = true;
-    let mut i = 0;
-    while i < s.len() {
-        let printed = is_printed(s[i]);
-        text = text & printed;
-        i += 1;
+    for &b in s {
+        text &= is_printed(b);
     }
     text
 }
@@ -65,27 +61,14 @@ pub fn is_text(s: &[u8]) -> bool
 pub fn same(a: &[u8], b: &[u8]) -> bool
     ensures { result ≡ same a.now b.now }
 {
-    if a.len() != b.len() {
-        return false;
-    }
-    let mut i = 0;
-    while i < a.len() {
-        if a[i] != b[i] {
-            return false;
-        }
-        i += 1;
-    }
-    true
+    a == b
 }
 
 // A byte as a signed number: 80 to FF are -128 to -1, so FE is -2 and not 254.
 fn signed(b: u8) -> i16
     ensures { result ≡ signed b }
 {
-    if b < 128 {
-        return b as i16;
-    }
-    b as i16 - 256
+    i16::from(b.cast_signed())
 }
 
 // "The quality is a signed byte, -2 to 100"; -1, a missing one, only where the format has it.
@@ -100,26 +83,21 @@ pub fn is_quality(missing: bool, b: u8) -> bool
 fn ended(s: &[u8]) -> bool
     ensures { result ≡ ended s.now }
 {
-    let mut i = 0;
-    while i < s.len() {
-        let b = s[i];
+    for &b in s {
         if b == 0 {
             return true;
         }
         if !is_printed(b) {
             return false;
         }
-        i += 1;
     }
     false
 }
 
 // "k bytes 20 to 7E, k at most 17, then 00; bytes after that 00 are kept and not examined": so the 00 is one of the first 18.
+#[tactic(auto, unfolding(crate::specs::Plain::is_creator))]
 pub fn is_creator(s: &[u8]) -> bool
     ensures { result ≡ is_creator s.now }
 {
-    if s.len() <= 18 {
-        return ended(s);
-    }
-    ended(&s[0..18])
+    ended(&s[..s.len().min(18)])
 }

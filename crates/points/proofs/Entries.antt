@@ -9,9 +9,13 @@ use Rattle.laws.specs.Digits.{value}
 use Rattle.laws.specs.Layout.{field, part}
 use Rattle.laws.proofs.Layouts.{part-part}
 use Rattle.points.specs.Calls.{nothing, FillsPoints}
-use Rattle.points.specs.Places.{point_at, entry_of, along, answer_of, Inside, Plans}
+use Rattle.points.specs.Places.{point_at, entry_of, along, no_plan, listed_by, answer_of, Inside, Plans}
 use Rattle.points.specs.declared.Point.{Point}
 use Rattle.points.specs.declared.Plan.{Plan}
+use Rattle.verdicts.specs.declared.Finding.{Finding}
+use Rattle.std.specs.Prelude.{Result, Ok, Err}
+use Rattle.std.specs.Result.{ResultUnwrapsOrElse}
+use Rattle.points.specs.contracts.PlanDefault.TheImpl
 use Rattle.points.proofs.Along.{entries-along}
 
 -- ---- of a part
@@ -40,9 +44,9 @@ module _ (c : List ℕ) (plan : Plan) (i : ℕ) where
       let l : i < plan.first + plan.second = omega arith in
       rw (lt-ltb _ _ l, lt-ltb _ _ h, e)
 
-  pub entry-second : plan.first ≤ i → i < plan.first + plan.second → entry_of c plan i ≡ point_at c (plan.at + 6 * i + 6)
+  pub entry_second : plan.first ≤ i → i < plan.first + plan.second → entry_of c plan i ≡ point_at c (plan.at + 6 * i + 6)
   unfolding entry_of
-  entry-second h l = rw (lt-ltb _ _ l, le-ltb _ _ h)
+  entry_second h l = rw (lt-ltb _ _ l, le-ltb _ _ h)
 
   pub entry_past : plan.first + plan.second ≤ i → entry_of c plan i ≡ nothing
   unfolding entry_of
@@ -55,15 +59,25 @@ module _ (c : List ℕ) (plan : Plan) (i : ℕ) where
         let l : i < plan.first + plan.second = omega arith in
         omega (arith, rw (lt-ltb _ _ h) at (inside.within i l))
 
-    pub within-second : plan.first ≤ i → i < plan.first + plan.second → plan.at + 6 * i + 6 + 6 ≤ n
-    within-second h l = rw (le-ltb _ _ h) at (inside.within i l)
+    pub within_second : plan.first ≤ i → i < plan.first + plan.second → plan.at + 6 * i + 6 + 6 ≤ n
+    within_second h l = rw (le-ltb _ _ h) at (inside.within i l)
 
 -- ---- a list of points that has every entry of a plan
 
-pub filled-points : {today : ℕ} {c : List ℕ} {plan : Plan} {after : List Point} (before : List Point) → Plans today c (length before) plan
-    → after ≡ along (entry_of c plan) 0 (length before) → FillsPoints today c before after (answer_of plan)
-filled-points {c = c} {plan} before p e = record {
-  listed = along (entry_of c plan) 0 (plan.first + plan.second);
-  says = p.says;
-  left = e ∙ sym (entries-along (entry_of c plan) 0 (plan.first + plan.second) (length before) (λ i h. entry_past c plan i (omega arith)));
-}
+pub filled-points : {today : ℕ} {c : List ℕ} {r : Result Plan Finding} {after : List Point} (before : List Point) → Plans today c (length before) r
+    → after ≡ along (entry_of c (listed_by r)) 0 (length before) → FillsPoints today c before after (answer_of r)
+filled-points {c = c} {r} before p e =
+    let plan = listed_by r in
+    record {
+      listed = along (entry_of c plan) 0 (plan.first + plan.second);
+      says = p.says;
+      left = e ∙ sym (entries-along (entry_of c plan) 0 (plan.first + plan.second) (length before) (λ i h. entry_past c plan i (omega arith)));
+    }
+
+-- the plan that is gone on with: none of a refusal
+pub plan_is : (r : Result Plan Finding) (p : Plan) → ResultUnwrapsOrElse r TheImpl.is_default-value.it p → p ≡ listed_by r
+plan_is (Ok q) p h = h
+plan_is (Err f) p h = zeros h.0 h.1
+  where
+    zeros : p.at ≡ 0 → (p.first ≡ 0) × (p.second ≡ 0) → p ≡ no_plan
+    zeros a e = λ j. record { at = a j; first = e.0 j; second = e.1 j }

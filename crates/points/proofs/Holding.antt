@@ -20,7 +20,7 @@ use Rattle.points.specs.declared.Point.{Point}
 use Rattle.points.specs.declared.Plan.{Plan}
 use Rattle.points.proofs.Along.{along-same, along-join}
 use Rattle.points.proofs.Record.{first_count, second_count, first_points, second_points, points-along, record-shows}
-use Rattle.points.proofs.Entries.{field_in, point-in, entry_first, entry-second}
+use Rattle.points.proofs.Entries.{field_in, point-in, entry_first, entry_second}
 
 -- ---- the first row of the table
 
@@ -96,7 +96,7 @@ module _ (c : List ℕ) (b : Bytes c) (start k : ℕ) (l : start + k ≤ length 
         of-second : (i : ℕ) → i < plan.second → entry_of c plan (0 + plan.first + i) ≡ point_at d (36 + 6 * first_count d + 6 * (0 + i))
         of-second i h =
             let e : plan.at + 6 * (0 + plan.first + i) + 6 ≡ start + (88 + (36 + 6 * first_count d + 6 * (0 + i))) = omega (arith, p, m) in
-            entry-second c plan (0 + plan.first + i) (omega arith) (omega arith)
+            entry_second c plan (0 + plan.first + i) (omega arith) (omega arith)
             ∙ sym (point-here (36 + 6 * first_count d + 6 * (0 + i)) (omega (arith, shown.3, m, n)) ∙ ap (point_at c) (sym e))
 
         one : along (entry_of c plan) 0 plan.first ≡ first_points d

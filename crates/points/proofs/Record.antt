@@ -14,10 +14,10 @@ use Rattle.laws.proofs.Cases.{and-true, all_true}
 use Rattle.laws.proofs.Layouts.{joined-cut, read, ◌then◌}
 use Rattle.minutiae.specs.Judged.{point_tests, point_holds, points_hold, extent, is_minutiae}
 use Rattle.minutiae.proofs.Tested.{view-told, record-told}
-use Rattle.records.specs.declared.Extent.TheVariants.{Takes}
 use Rattle.points.specs.Points.{InRange, point_bytes, points_bytes, AllInRange, IsView, Shows}
 use Rattle.points.specs.Places.{point_at, along}
 use Rattle.points.specs.declared.Point.{Point}
+use Rattle.std.specs.Prelude.{Some}
 
 -- the end of a list of fields
 end : ◌≡◌ {A = List (List ℕ)} [] []
@@ -70,7 +70,7 @@ points-along s a j (suc m) =
 
 -- ---- a view
 
-view-shows : (s : List ℕ) → Bytes s → {n : ℕ} → extent s ≡ Takes n
+view-shows : (s : List ℕ) → Bytes s → {n : ℕ} → extent s ≡ Some n
     → IsView (take n s) (points_of (field s 3 1) (drop 4 s)) × (n ≡ 6 + 6 * field s 3 1) × (field s 3 1 ≤ 128)
 view-shows s b {n} e =
     let t = view-told s e in

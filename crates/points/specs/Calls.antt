@@ -3,11 +3,11 @@ use Rattle.std.specs.Prelude.{ℕ, zero, suc, ◌≤◌, ◌≡◌, List, [], �
 use Rattle.verdicts.specs.Verdicts.{outright, verdict_of}
 use Rattle.verdicts.specs.declared.Fault.TheVariants.{SmallRoom}
 use Rattle.verdicts.specs.declared.Finding.{Finding}
-use Rattle.verdicts.specs.declared.Outcome.TheVariants.{Fine, Broken}
 use Rattle.container.specs.InOrder.{Named}
 use Rattle.points.specs.Points.{HasPoints}
 use Rattle.points.specs.declared.Point.{Point}
 use Rattle.points.specs.declared.Listed.{Listed}
+use Rattle.std.specs.Prelude.{Ok, Err}
 
 -- ---- what a list holds
 
@@ -48,11 +48,11 @@ HoldsEach l n = (n ≤ length l.types) × (n ≤ length l.xs) × (n ≤ length l
 
 -- "a refusal gives both counts as 0"
 abbrev pub refused_by : Finding → Listed
-refused_by f = record { verdict = verdict_of (Broken f); first = 0; second = 0 }
+refused_by f = record { verdict = verdict_of (Err f); first = 0; second = 0 }
 
 -- "give both counts"
 abbrev pub counted : List Point → List Point → Listed
-counted first second = record { verdict = verdict_of Fine; first = length first; second = length second }
+counted first second = record { verdict = verdict_of (Ok tt); first = length first; second = length second }
 
 -- of the bytes c, with room for so many points, and which points are listed: the first broken rule, and none; or "3 .., after the check", and none; or those of
 -- the first view and then those of the second

@@ -3,13 +3,13 @@ use Rattle.std.specs.Prelude.{ℕ, zero, suc, ◌+◌, ◌*◌, ◌/◌, ◌%◌
 use Rattle.laws.specs.Layout.{field}
 use Rattle.verdicts.specs.Verdicts.{outright, verdict_of}
 use Rattle.verdicts.specs.declared.Fault.TheVariants.{SmallRoom}
-use Rattle.verdicts.specs.declared.Outcome.TheVariants.{Fine, Broken}
-use Rattle.verdicts.specs.declared.Verdict.{Verdict}
+use Rattle.verdicts.specs.declared.Finding.{Finding}
 use Rattle.container.specs.Container.{largest}
 use Rattle.points.specs.Calls.{nothing, Says}
 use Rattle.points.specs.declared.Point.{Point}
 use Rattle.points.specs.declared.Plan.{Plan}
 use Rattle.points.specs.declared.Listed.{Listed}
+use Rattle.std.specs.Prelude.{Result, Ok, Err}
 
 -- the point that stands at an offset
 abbrev pub point_at : List ℕ → ℕ → Point
@@ -36,8 +36,13 @@ along f i zero = []
 along f i (suc n) = f i ∷ along f (suc i) n
 
 -- nothing is listed
-abbrev pub no_plan : Verdict → Plan
-no_plan v = record { verdict = v; at = 0; first = 0; second = 0 }
+abbrev pub no_plan : Plan
+no_plan = record { at = 0; first = 0; second = 0 }
+
+-- what is listed, which a refusal has nothing of
+abbrev pub listed_by : Result Plan Finding → Plan
+listed_by (Ok plan) = plan
+listed_by (Err f) = no_plan
 
 -- how many points the two views have, where the value of BC starts at an offset
 abbrev pub first_of : List ℕ → ℕ → ℕ
@@ -47,13 +52,14 @@ abbrev pub second_of : List ℕ → ℕ → ℕ
 second_of c start = field c (start + 123 + 6 * first_of c start) 1
 
 -- the plan of these
-unfoldable pub plan_at : List ℕ → ℕ → ℕ → Plan
+unfoldable pub plan_at : List ℕ → ℕ → ℕ → Result Plan Finding
 plan_at c start room =
-    cond (ltb room (first_of c start + second_of c start)) (no_plan (verdict_of (Broken (outright SmallRoom))))
-    (record { verdict = verdict_of Fine; at = start + 118; first = first_of c start; second = second_of c start })
+    cond (ltb room (first_of c start + second_of c start)) (Err (outright SmallRoom))
+    (Ok (record { at = start + 118; first = first_of c start; second = second_of c start }))
 
-abbrev pub answer_of : Plan → Listed
-answer_of plan = record { verdict = plan.verdict; first = plan.first; second = plan.second }
+abbrev pub answer_of : Result Plan Finding → Listed
+answer_of (Ok plan) = record { verdict = verdict_of (Ok tt); first = plan.first; second = plan.second }
+answer_of (Err f) = record { verdict = verdict_of (Err f); first = 0; second = 0 }
 
 -- each point that is listed stands within so many bytes, and there are no more than two views have
 pub record Inside (plan : Plan) (size : ℕ) : Type 0 where
@@ -68,7 +74,7 @@ pub record Stands (c : List ℕ) (start : ℕ) : Type 0 where
   pub within : start + 126 + 6 * first_of c start + 6 * second_of c start ≤ length c
 
 -- a plan for a room of so many points
-pub record Plans (today : ℕ) (c : List ℕ) (room : ℕ) (plan : Plan) : Type 0 where
-  pub says : Says today c (λ n. n ≤ room) (answer_of plan) (along (entry_of c plan) 0 (plan.first + plan.second))
-  pub inside : Inside plan (length c)
-  pub fits : plan.first + plan.second ≤ room
+pub record Plans (today : ℕ) (c : List ℕ) (room : ℕ) (r : Result Plan Finding) : Type 0 where
+  pub says : Says today c (λ n. n ≤ room) (answer_of r) (along (entry_of c (listed_by r)) 0 ((listed_by r).first + (listed_by r).second))
+  pub inside : Inside (listed_by r) (length c)
+  pub fits : (listed_by r).first + (listed_by r).second ≤ room

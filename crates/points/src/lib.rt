@@ -4,13 +4,13 @@
 #![tactic(auto)]
 
 ghost use Rattle.std.specs.Prelude.{◌≡◌, ◌+◌, ◌≤◌, length};
-ghost use Rattle.points.specs.Places.{point_at, entry_of, no_plan, plan_at, answer_of, Inside, Stands, Plans};
+ghost use Rattle.points.specs.Places.{point_at, entry_of, plan_at, answer_of, Inside, Stands, Plans};
 
 use numbers::number;
-use verdicts::{Outcome, Tag, Verdict};
+use verdicts::{Fault, Finding, Verdict};
 
 // A point: its type, where it is, its angle, its quality.
-#[derive(Clone, Copy)]
+#[derive(Clone, Copy, Default)]
 pub struct Point {
     pub sort: u64,
     pub x: u64,
@@ -27,11 +27,9 @@ pub struct Listed {
     pub second: u64,
 }
 
-// The verdict; where in the container the first view's points stand, how many they are, and how many the second view has. A
-// refusal has none to list.
-#[derive(Clone, Copy)]
+// Where in the container the first view's points stand, how many they are, and how many the second view has.
+#[derive(Clone, Copy, Default)]
 pub struct Plan {
-    pub verdict: Verdict,
     pub at: usize,
     pub first: usize,
     pub second: usize,
@@ -52,61 +50,35 @@ pub fn point_at(s: &[u8], at: usize) -> Point
     }
 }
 
-// Nothing is listed.
-fn no_plan(verdict: Verdict) -> Plan
-    ensures { result ≡ no_plan verdict }
-{
-    Plan {
-        verdict: verdict,
-        at: 0,
-        first: 0,
-        second: 0,
-    }
-}
-
 // The value of BC starts at `start`: 88 bytes on is the record, and its views' counts stand behind 29 bytes of it, and behind the
 // first view's points and five bytes more. "3 if the list is shorter than the sum of the counts, after the check".
-fn plan_at(c: &[u8], start: usize, room: usize) -> Plan
+#[tactic(auto, unfolding(crate::specs::Places::plan_at))]
+fn plan_at(c: &[u8], start: usize, room: usize) -> Result<Plan, Finding>
     requires { Stands c.now start }
     ensures { result ≡ plan_at c.now start room }
 {
     let first = number(c, start + 117, 1) as usize;
     let second = number(c, start + 123 + 6 * first, 1) as usize;
     if room < first + second {
-        return no_plan(Verdict {
-            number: 3,
-            place: 0,
-            tag: Tag::NoTag,
-        });
+        return Err(Fault::SmallRoom.into());
     }
-    Plan {
-        verdict: Verdict {
-            number: 0,
-            place: 0,
-            tag: Tag::NoTag,
-        },
+    Ok(Plan {
         at: start + 118,
-        first: first,
-        second: second,
-    }
+        first,
+        second,
+    })
 }
 
 // The check as kind 6, and then which points are listed where there is room for so many. BC is the first row.
-pub fn locate(today: u64, container: &[u8], room: usize) -> Plan
+pub fn locate(today: u64, container: &[u8], room: usize) -> Result<Plan, Finding>
     ensures { Plans today container.now room result }
 {
-    let map = container::judge(6, today, container);
-    let outcome = map.outcome;
-    match outcome {
-        Outcome::Broken(_) => no_plan(verdicts::verdict_of(outcome)),
-        Outcome::Fine => {
-            let froms = map.from;
-            plan_at(container, froms[0] as usize, room)
-        }
-    }
+    let read = container::judge(6, today, container)?;
+    plan_at(container, read.rows.spans[0].from as usize, room)
 }
 
 // Entry i of a list: the point, and zeros past the last.
+#[tactic(auto, using(crate::proofs::Entries::entry_first, crate::proofs::Entries::entry_second, crate::proofs::Entries::entry_past, crate::proofs::Entries::within_first, crate::proofs::Entries::within_second))]
 pub fn entry(container: &[u8], plan: Plan, i: usize) -> Point
     requires { Inside plan (length container.now) }
     ensures { result ≡ entry_of container.now plan i }
@@ -117,23 +89,25 @@ pub fn entry(container: &[u8], plan: Plan, i: usize) -> Point
     if i < plan.first + plan.second {
         return point_at(container, plan.at + 6 * i + 6);
     }
-    Point {
-        sort: 0,
-        x: 0,
-        y: 0,
-        angle: 0,
-        quality: 0,
-    }
+    Point::default()
 }
 
-// What is answered by a plan.
-pub fn answer(plan: Plan) -> Listed
-    ensures { result ≡ answer_of plan }
-{
-    let verdict = plan.verdict;
-    Listed {
-        verdict: verdict,
-        first: plan.first as u64,
-        second: plan.second as u64,
+// What is answered by a plan: a refusal has none to list.
+impl From<Result<Plan, Finding>> for Listed {
+    ghost from_gives = { λ plan l. l ≡ answer_of plan };
+
+    fn from(plan: Result<Plan, Finding>) -> Listed {
+        match plan {
+            Ok(plan) => Listed {
+                verdict: Verdict::CONFORMS,
+                first: plan.first as u64,
+                second: plan.second as u64,
+            },
+            Err(f) => Listed {
+                verdict: f.into(),
+                first: 0,
+                second: 0,
+            },
+        }
     }
 }

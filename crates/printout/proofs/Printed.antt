@@ -16,8 +16,6 @@ use Rattle.laws.proofs.Cases.{which, not_so, and_is, and-true}
 use Rattle.texts.specs.Text.{ascii, digit}
 use Rattle.texts.proofs.Bounds.{decimal-length}
 use Rattle.dates.specs.Date.{IsTextDate, is_digit, date_of}
-use Rattle.dates.specs.declared.Date.{Date}
-use Rattle.dates.specs.declared.Date.TheVariants.{Is, Not}
 use Rattle.dates.proofs.Dates.{digit as digit-bounds, text-exact, text-not, date-long}
 use Rattle.kinds.specs.Tables.{IsKind, is_kind}
 use Rattle.verdicts.specs.Verdicts.{number_of}
@@ -30,6 +28,7 @@ use Rattle.report.specs.Calls.{report_room, report_output}
 use Rattle.report.proofs.Answers.{report-1, report-cases}
 use Rattle.printout.specs.Printout.{kind_of, kind_text, dated, desk_output, refused_text, shown, desk_text, input_size, printed, Asks}
 use Rattle.printout.proofs.Ways.{bad_kind, no_date}
+use Rattle.std.specs.Prelude.{Option, Some, None}
 
 -- ---- it fits
 
@@ -48,9 +47,9 @@ text-fits s room =
       | inr k ↦ rw k (refused-short UnknownKind)
     ]
   where
-    go : (d : Date) → length (shown (dated (kind_of s) d (drop 10 s) room)) ≤ report_room
-    go Not = refused-short NoDate
-    go (Is today) = shown-short (kind_of s) today (drop 10 s) room
+    go : (d : Option ℕ) → length (shown (dated (kind_of s) d (drop 10 s) room)) ≤ report_room
+    go None = refused-short NoDate
+    go (Some today) = shown-short (kind_of s) today (drop 10 s) room
 
 -- ---- an input that asks for a container of a kind under a date
 
@@ -101,7 +100,7 @@ asked-output : {s : List ℕ} {kind today : ℕ} {c : List ℕ} → Asks s kind 
 unfolding desk_output
 asked-output {s} {kind} {today} {c} a room =
     let l = date-long a.date_is in
-    let d : date_of a.date ≡ Is today = (text-exact a.date today).1 a.date_is in
+    let d : date_of a.date ≡ Some today = (text-exact a.date today).1 a.date_is in
     rw (a.written, take_at a.date c 8 l, drop_at a.date c 8 l, d)
     (elim (which (is_kind kind)) [
       | inl k ↦ rw (kind-text kind (a.date ++ c) ((kind-exact kind).0 k), k)

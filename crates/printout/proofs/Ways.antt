@@ -11,7 +11,6 @@ use Rattle.laws.specs.Room.{zeros, Put}
 use Rattle.laws.proofs.Cases.{and-true}
 use Rattle.laws.proofs.Rooms.{filled_put, filled_none, same_text}
 use Rattle.dates.specs.Date.{date_of}
-use Rattle.dates.specs.declared.Date.TheVariants.{Is, Not}
 use Rattle.dates.proofs.Texts.{text-long}
 use Rattle.kinds.specs.Tables.{is_kind}
 use Rattle.verdicts.specs.Output.{Output, refusal, text, Leaves}
@@ -20,6 +19,7 @@ use Rattle.verdicts.proofs.Apart.{never-zero}
 use Rattle.report.specs.Calls.{report_output}
 use Rattle.report.proofs.Answers.{report-cases}
 use Rattle.printout.specs.Printout.{kind_of, desk_output, refused_text, shown, desk_text}
+use Rattle.std.specs.Prelude.{Some, None}
 
 -- ---- the kind's two digits
 
@@ -54,7 +54,7 @@ module _ (s : List ℕ) (room : ℕ) where
   bad_kind k = rw k
 
   module _ (k : is_kind (kind_of s) ≡ true) where
-    pub no_date : date_of (take 8 (drop 2 s)) ≡ Not → refused_text 2 ≡ desk_text s room
+    pub no_date : date_of (take 8 (drop 2 s)) ≡ None → refused_text 2 ≡ desk_text s room
     unfolding desk_text desk_output
     no_date d = rw (k, d)
 
@@ -64,7 +64,7 @@ module _ (s : List ℕ) (room : ℕ) where
         let n : length (take 8 (drop 2 s)) ≡ 8 → ⊥ = λ e. omega (arith, take_short 8 (drop 2 s), length-drop 2 s) in
         no_date (sym (text-long (take 8 (drop 2 s)) n))
 
-    pub dated-text : {today : ℕ} → date_of (take 8 (drop 2 s)) ≡ Is today → shown (report_output (kind_of s) today (drop 10 s) room) ≡ desk_text s room
+    pub dated-text : {today : ℕ} → date_of (take 8 (drop 2 s)) ≡ Some today → shown (report_output (kind_of s) today (drop 10 s) room) ≡ desk_text s room
     unfolding desk_text desk_output
     dated-text d = rw (k, d)
 
@@ -85,7 +85,7 @@ fits kind today c room t =
     report-cases kind today c room (λ o. o ≡ text t → length t ≤ room) (λ f e. let z : ◌≡◌ {A = ℕ} 0 1 = cc in absurd (omega arith))
     (λ u l s e. let q : u ≡ t = cc in rw (← q) (omega arith))
 
-module _ (s d : List ℕ) {kind today : ℕ} {e : List ℕ} {r : Done} (k : is_kind (kind_of s) ≡ true) (t : date_of (take 8 (drop 2 s)) ≡ Is today) (q : kind ≡ kind_of s)
+module _ (s d : List ℕ) {kind today : ℕ} {e : List ℕ} {r : Done} (k : is_kind (kind_of s) ≡ true) (t : date_of (take 8 (drop 2 s)) ≡ Some today) (q : kind ≡ kind_of s)
     (l : Leaves (report_output kind today (drop 10 s) (length d)) d e r) where
   says : shown (report_output kind today (drop 10 s) (length d)) ≡ desk_text s (length d)
   says = rw q (dated-text s (length d) k t)

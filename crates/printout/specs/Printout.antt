@@ -4,14 +4,13 @@
 use Rattle.std.specs.Prelude.{ℕ, ◌+◌, ◌-◌, ◌*◌, ◌/◌, ◌%◌, ◌≡◌, cond, ◌&&◌, List, [], ◌∷◌, ◌++◌, length, take, drop}
 use Rattle.texts.specs.Text.{ascii, digit, decimal}
 use Rattle.dates.specs.Date.{IsTextOf, is_digit, date_of}
-use Rattle.dates.specs.declared.Date.{Date}
-use Rattle.dates.specs.declared.Date.TheVariants.{Is, Not}
 use Rattle.kinds.specs.Tables.{is_kind}
 use Rattle.verdicts.specs.Verdicts.{number_of, outright}
 use Rattle.verdicts.specs.Output.{Output, refusal, text}
 use Rattle.verdicts.specs.declared.Fault.TheVariants.{UnknownKind, NoDate}
 use Rattle.container.specs.Container.{largest}
 use Rattle.report.specs.Calls.{report_room, report_output}
+use Rattle.std.specs.Prelude.{Option, Some, None}
 
 -- ---- what is printed for an input that was read, with a room of so many bytes for the report
 
@@ -21,9 +20,9 @@ kind_of [] = 0
 kind_of (a ∷ []) = 0
 kind_of (a ∷ b ∷ s) = cond (is_digit a && is_digit b) ((a - 48) * 10 + (b - 48)) 0
 
-abbrev pub dated : ℕ → Date → List ℕ → ℕ → Output
-dated kind Not c room = refusal (outright NoDate)
-dated kind (Is today) c room = report_output kind today c room
+abbrev pub dated : ℕ → Option ℕ → List ℕ → ℕ → Output
+dated kind None c room = refusal (outright NoDate)
+dated kind (Some today) c room = report_output kind today c room
 
 -- "A bad kind wins over everything, a bad date over a container that is too long"
 unfoldable pub desk_output : List ℕ → ℕ → Output

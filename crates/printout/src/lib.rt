@@ -1,25 +1,21 @@
 // What the desk program prints: the report of the container in its input, or `refused N`.
 #![tactic(auto)]
 
-ghost use Rattle.std.specs.Prelude.{◌≡◌, ◌<◌, length};
+ghost use Rattle.std.specs.Prelude.{◌≡◌, length, unwrap_or};
 ghost use Rattle.laws.specs.Room.{zeros, Put};
 ghost use Rattle.printout.specs.Printout.{kind_of, desk_text, refused_text};
 
-use dates::Date;
-
-// The kind by its two digits; 0, which is no kind, where there are not two.
-fn kind_of(input: &[u8]) -> u64
-    ensures { result ≡ kind_of input.now }
+// The kind by its two digits; None, where there are not two.
+fn kind_of(input: &[u8]) -> Option<u64>
+    ensures { unwrap_or result 0 ≡ kind_of input.now }
 {
-    if input.len() < 2 {
-        return 0;
+    let [tens, units, ..] = input else {
+        return None;
+    };
+    if !(tens.is_ascii_digit() & units.is_ascii_digit()) {
+        return None;
     }
-    let tens = numbers::wide(input[0]);
-    let units = numbers::wide(input[1]);
-    if (48 <= tens) & (tens <= 57) & (48 <= units) & (units <= 57) {
-        return (tens - 48) * 10 + (units - 48);
-    }
-    0
+    Some(u64::from(*tens - b'0') * 10 + u64::from(*units - b'0'))
 }
 
 // `refused N`, and a line end.
@@ -41,18 +37,18 @@ pub fn refuse(number: u64, room: &mut [u8]) -> usize
 }
 
 // What is printed for an input: it goes to the front of the room, and zeros behind it. The report call clears the room by
-// itself, and its refusals leave it all zeros.
+// itself, and its refusals leave it all zeros. Of a number that is no kind, 0 stands for a kind that is not written.
 pub fn answer(input: &[u8], room: &mut [u8]) -> usize
     ensures { Put (desk_text input.now (length room.old)) (zeros (length room.old)) room.new result }
 {
-    let kind = kind_of(input);
+    let kind = kind_of(input).unwrap_or(0);
     if !kinds::is_kind(kind) {
         return refuse(1, room);
     }
     if input.len() < 10 {
         return refuse(2, room);
     }
-    let Date::Is(today) = dates::date_of(&input[2..10]) else {
+    let Some(today) = dates::date_of(&input[2..10]) else {
         return refuse(2, room);
     };
     let done = prosianek::report(kind, today, &input[10..], room);

@@ -18,11 +18,9 @@ use Rattle.fascn.specs.declared.Numbers.{Numbers}
 use Rattle.fascn.specs.declared.Decoded.{Decoded}
 use Rattle.fascn.proofs.Framing.{range-exact}
 use Rattle.fascn.proofs.Packing.{length-encoded}
-use Rattle.verdicts.specs.Verdicts.{number_of, no_tag, tag_number, found, verdict_of}
+use Rattle.verdicts.specs.Verdicts.{Tag, number_of, no_tag, tag_number, found, verdict_of}
 use Rattle.verdicts.specs.declared.Fault.{Fault}
 use Rattle.verdicts.specs.declared.Fault.TheVariants.{SmallRoom, NoElement}
-use Rattle.verdicts.specs.declared.Tag.{Tag}
-use Rattle.verdicts.specs.declared.Tag.TheVariants.{NoTag, Of}
 use Rattle.verdicts.specs.declared.Finding.{Finding}
 use Rattle.verdicts.specs.declared.Verdict.{Verdict}
 use Rattle.verdicts.specs.declared.Done.{Done}
@@ -54,6 +52,7 @@ use Rattle.prosianek.proofs.Checking.{judged, given}
 use Rattle.prosianek.proofs.Decoding.{decoded-once, decoded-0}
 use Rattle.promises.specs.Demands.{Shown, InFewest, Demand2}
 use Rattle.promises.proofs.Rooms.{gave}
+use Rattle.std.specs.Prelude.{Some, None}
 
 -- ---- the first broken rule
 
@@ -72,9 +71,9 @@ only_first kind today c b r a f place tag h =
 -- ---- its tag
 
 -- none is told by a number that no tag has
-none_told : (g : Tag) → ((t : ℕ) → g ≡ Of t → t < 65536) → (tag_number g ≡ no_tag) ↔ (g ≡ NoTag)
-none_told NoTag h = (λ e. refl, λ e. refl)
-none_told (Of t) h = (λ e. absurd (told-apart t (h t refl) e), λ e. absurd (not-both (sym e)))
+none_told : (g : Tag) → ((t : ℕ) → g ≡ Some t → t < 65536) → (tag_number g ≡ no_tag) ↔ (g ≡ None)
+none_told None h = (λ e. refl, λ e. refl)
+none_told (Some t) h = (λ e. absurd (told-apart t (h t refl) e), λ e. absurd (not-both (sym e)))
 
 module _ {kind today : ℕ} {c before after : List ℕ} {r : Checked} where
   first_named : Says kind today c before after r → (r.verdict.number ≡ 0 → ⊥)
@@ -82,11 +81,11 @@ module _ {kind today : ℕ} {c before after : List ℕ} {r : Checked} where
   first_named (breaks f n a z) k = rw a (f.fault, refl, n)
   first_named (conforms vs k a g) n = absurd (n (rw a))
 
-  tag_at_place : Bytes c → Says kind today c before after r → (t : ℕ) → r.verdict.tag ≡ Of t → (take (long t) (drop r.verdict.place c) ≡ tag_bytes t) × (t < 65536)
+  tag_at_place : Bytes c → Says kind today c before after r → (t : ℕ) → r.verdict.tag ≡ Some t → (take (long t) (drop r.verdict.place c) ≡ tag_bytes t) × (t < 65536)
   tag_at_place b (breaks f n a z) t e = rw a (at_place kind today c f b n t (rw a at e))
   tag_at_place b (conforms vs k a g) t e = absurd (not-both (rw a at e))
 
-  no_tag_when : Says kind today c before after r → (r.verdict.tag ≡ NoTag) ↔ ((r.verdict.place ≡ 0) ⊎ (r.verdict.place ≡ length c))
+  no_tag_when : Says kind today c before after r → (r.verdict.tag ≡ None) ↔ ((r.verdict.place ≡ 0) ⊎ (r.verdict.place ≡ length c))
   no_tag_when (breaks f n a z) = rw a (none-when kind today c f n)
   no_tag_when (conforms vs k a g) = rw a (λ e. inl refl, λ e. refl)
 
@@ -168,7 +167,7 @@ module _ (kind today : ℕ) where
   write-only : (s before after : List ℕ) (r : Done) → Bytes s → Writes kind today s before after r → (f : Finding) → Refused kind today s (length before) f → r ≡ done_of (refusal f)
   write-only s before after r b h f w = (leaves b h.puts).answer ∙ ap done_of ((refused-exact kind today s (length before) b f).1 w)
 
-  write-tag : {s before after : List ℕ} {r : Done} → Puts kind today s before after r → (t : ℕ) → r.tag ≡ Of t → t < 65536
+  write-tag : {s before after : List ℕ} {r : Done} → Puts kind today s before after r → (t : ℕ) → r.tag ≡ Some t → t < 65536
   write-tag {s} {before} (refuses f w a z) t e = row-tag kind today s (length before) f w t (rw a at e)
   write-tag (writes vs c i k w h a z) t e = absurd (not-both (rw a at e))
 

@@ -25,7 +25,6 @@ use Rattle.dates.proofs.Dates.{date-exact}
 use Rattle.kinds.specs.Tables.{table}
 use Rattle.kinds.specs.declared.ValueRule.TheVariants.{Fascn, Fingers, Face, Iris}
 use Rattle.verdicts.specs.Verdicts.{verdict_of}
-use Rattle.verdicts.specs.declared.Outcome.TheVariants.{Fine}
 use Rattle.verdicts.specs.declared.Fault.{Fault}
 use Rattle.verdicts.specs.declared.Fault.TheVariants.{NoDate, SmallRoom, TornFolder}
 use Rattle.verdicts.specs.declared.Done.{Done}
@@ -55,6 +54,7 @@ use Rattle.prosianek.specs.Calls.{FolderEnds, Rows, Lasts}
 use Rattle.promises.specs.Demands.{Numbered, Clean, GoesOver, Ends, torn, RowInTurn, small_room, cut_short, written, GoesThrough, Gives, Replaces, same, personal, refused, ReplacesEach, TheOrdersFolder}
 use Rattle.promises.specs.Demands as demand
 use Rattle.promises.proofs.Rooms.{answer, Fits, gave, left-nothing, left-text, clean}
+use Rattle.std.specs.Prelude.{Ok}
 
 -- ---- going over
 
@@ -326,7 +326,7 @@ record Alike (today : ℕ) (e f : Entry) : Type 0 where
   size_is : length e.bytes ≡ length f.bytes
   verdict_is : verdict e.kind today e.bytes ≡ verdict f.kind today f.bytes
 
-as-fine : (kind today : ℕ) (c : List ℕ) → Bytes c → (vs : Values) → Conforms kind today vs c → verdict kind today c ≡ verdict_of Fine
+as-fine : (kind today : ℕ) (c : List ℕ) → Bytes c → (vs : Values) → Conforms kind today vs c → verdict kind today c ≡ verdict_of (Ok tt)
 unfolding outcome
 as-fine kind today c b vs h = ap (λ (p : Parsed (List ℕ)). verdict_of (outcome_of p)) (conforms-parsed kind today c b vs h)
 

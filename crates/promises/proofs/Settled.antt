@@ -6,8 +6,7 @@ use lib.ListN.{length}
 use Rattle.laws.proofs.Layouts.{by_entries}
 use Rattle.fascn.specs.declared.Numbers.{Numbers}
 use Rattle.fascn.specs.declared.Decoded.{Decoded}
-use Rattle.verdicts.specs.Verdicts.{tag_number}
-use Rattle.verdicts.specs.declared.Tag.{Tag}
+use Rattle.verdicts.specs.Verdicts.{Tag, tag_number}
 use Rattle.verdicts.specs.declared.Done.{Done}
 use Rattle.verdicts.proofs.Outputs.{settled as settled-output}
 use Rattle.sheet.specs.declared.Checked.{Checked}

@@ -12,7 +12,6 @@ use Rattle.verdicts.specs.Verdicts.{number_of, no_tag, tag_number, outright, ver
 use Rattle.verdicts.specs.declared.Fault.{Fault}
 use Rattle.verdicts.specs.declared.Fault.TheVariants.{UnknownKind, FascnDiffer, BiometricBlock, ChuidBlock, NeitherHolds}
 use Rattle.verdicts.specs.declared.Finding.{Finding}
-use Rattle.verdicts.specs.declared.Outcome.TheVariants.{Broken}
 use Rattle.verdicts.specs.declared.Verdict.{Verdict}
 use Rattle.verdicts.proofs.Apart.{never-zero}
 use Rattle.der.specs.Der.{Item, der_bytes}
@@ -27,6 +26,7 @@ use Rattle.signer.proofs.Once.{one_value, one_place, one-fascn, one-own, one-own
 use Rattle.signer.proofs.Computed.{signed_of, says}
 use Rattle.prosianek.specs.Calls.{Judges, Signers}
 use Rattle.promises.specs.Demands.{Numbered, LiesIn, OneCall, WhoseCertificate}
+use Rattle.std.specs.Prelude.{Err}
 
 -- ---- an answer is a refusal, or a certificate in one of the two
 
@@ -100,11 +100,11 @@ module _ {kind today : ℕ} {chuid biometric : List ℕ} {at own_at : ℕ × ℕ
 -- ---- the sentences
 
 -- a check that refuses names a finding
-finding : (kind today : ℕ) (c : List ℕ) → Bytes c → (v : Verdict) → Judges kind today c v → (v.number ≡ 0 → ⊥) → (f : Finding) × Named kind today c f × (v ≡ verdict_of (Broken f))
+finding : (kind today : ℕ) (c : List ℕ) → Bytes c → (v : Verdict) → Judges kind today c v → (v.number ≡ 0 → ⊥) → (f : Finding) × Named kind today c f × (v ≡ verdict_of (Err f))
 unfolding outcome
 finding kind today c b v j n = go (parsed kind today c) refl
   where
-    go : (p : Parsed (List ℕ)) → parsed kind today c ≡ p → (f : Finding) × Named kind today c f × (v ≡ verdict_of (Broken f))
+    go : (p : Parsed (List ℕ)) → parsed kind today c ≡ p → (f : Finding) × Named kind today c f × (v ≡ verdict_of (Err f))
     go (fault f) e = (f, named kind today c b f e, j.answer ∙ ap (λ (q : Parsed (List ℕ)). verdict_of (outcome_of q)) e)
     go (values vs) e = absurd (n (ap (λ (w : Verdict). w.number) (j.answer ∙ ap (λ (q : Parsed (List ℕ)). verdict_of (outcome_of q)) e)))
 
@@ -116,7 +116,7 @@ module _ (kind today : ℕ) (chuid biometric : List ℕ) (at own_at : ℕ × ℕ
   one : (a : Signed) → Says kind today chuid biometric a → Answer a
   one a s = as_said b d x a s
 
-  hands_on : (w : ℕ) (f : Finding) (v : Verdict) → v ≡ verdict_of (Broken f) → Answer (refusal w f) → (number ≡ v.number) × (place ≡ v.place) × (tag ≡ tag_number v.tag) × (which ≡ w)
+  hands_on : (w : ℕ) (f : Finding) (v : Verdict) → v ≡ verdict_of (Err f) → Answer (refusal w f) → (number ≡ v.number) × (place ≡ v.place) × (tag ≡ tag_number v.tag) × (which ≡ w)
   hands_on w f v e a = rw e (a.number_is, a.place_is, a.tag_is, a.which_is)
 
   finds : (w n : ℕ) (c : Item) (h : ℕ × ℕ) → cond (eqb w 1) at own_at ≡ h → Answer (found w n c)
@@ -133,7 +133,7 @@ module _ (kind today : ℕ) (chuid biometric : List ℕ) (at own_at : ℕ × ℕ
   -- a refusal's part is the biometric's
   empty-part : (w : ℕ) (f : Finding) → Answer (refusal w f) → (part ≡ own_at) × (bytes ≡ [])
   empty-part w f a =
-      let e : holder (verdict_of (Broken f)) w at own_at ≡ own_at = rw (ne_eqb (number_of f.fault) 0 (never-zero f.fault)) in (
+      let e : holder (verdict_of (Err f)) w at own_at ≡ own_at = rw (ne_eqb (number_of f.fault) 0 (never-zero f.fault)) in (
         λ i. ((a.block_is ∙ ap (λ (p : ℕ × ℕ). p.0) e) i, (a.offset_is ∙ ap (λ (p : ℕ × ℕ). p.1 + 0) e ∙ add-zero own_at.1) i),
         a.bytes_are,
       )

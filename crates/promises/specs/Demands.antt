@@ -16,17 +16,14 @@ use Rattle.fascn.specs.Fascn.{IsFascnOf, IsFascn}
 use Rattle.fascn.specs.Calls.{no_numbers}
 use Rattle.fascn.specs.declared.Numbers.{Numbers}
 use Rattle.fascn.specs.declared.Decoded.{Decoded}
-use Rattle.verdicts.specs.Verdicts.{number_of, no_tag, tag_number, outright, found}
+use Rattle.verdicts.specs.Verdicts.{Tag, number_of, no_tag, tag_number, outright, found}
 use Rattle.verdicts.specs.Output.{refusal, done_of}
 use Rattle.verdicts.specs.declared.Fault.{Fault}
 use Rattle.verdicts.specs.declared.Fault.TheVariants.{UnknownKind, NoDate, SmallRoom, LargeContainer, NoElement, BadFascn, FascnDiffer, BiometricBlock, ChuidBlock, NeitherHolds, TornFolder}
-use Rattle.verdicts.specs.declared.Tag.{Tag}
-use Rattle.verdicts.specs.declared.Tag.TheVariants.{NoTag, Of}
 use Rattle.verdicts.specs.declared.Finding.{Finding}
 use Rattle.verdicts.specs.declared.Verdict.{Verdict}
 use Rattle.verdicts.specs.declared.Done.{Done}
 use Rattle.kinds.specs.Tables.{table, IsKind, row_at}
-use Rattle.kinds.specs.declared.Slot.TheVariants.{Holds}
 use Rattle.container.specs.Container.{Values, tag_bytes, long, Conforms, largest}
 use Rattle.container.specs.Reading.{values, fault, parsed}
 use Rattle.container.specs.InOrder.{Named}
@@ -58,6 +55,7 @@ use Rattle.prosianek.specs.Calls.{Judges, Checks, Writes, Views, Reports, Lists,
 use Rattle.printout.specs.Printout.{refused_text, printed, kind_text, Asks}
 use Rattle.capi.specs.Calls.{CChecks, CWrites, CViews, CReports, CLists, CSigners, CDecodes, CEncodes}
 use Rattle.capi.specs.Folder.{CFolderSteps, CFolderEnds, CRows, CLasts}
+use Rattle.std.specs.Prelude.{Some, None}
 
 -- ---- Demand 1. "Every byte string, date and room size gets an answer, and every call ends. Bad input is refused by number, without the caller having
 -- checked it. A refusal leaves the lent output room all zeros; a success leaves zeros after the last byte of output."
@@ -158,14 +156,14 @@ pub record Demand2 : Type 0 where
   pub only_first : (kind today : ℕ) (c before after : List ℕ) (r : Checked) → Bytes c → Checks kind today c before after r → (f : Fault) (place : ℕ) (tag : Tag)
       → Named kind today c (found f place tag) → (r.verdict.number ≡ number_of f) × (r.verdict.place ≡ place) × (r.verdict.tag ≡ tag)
   -- the tag is the one at the place: the bytes there begin with its bytes
-  pub tag_at_place : (kind today : ℕ) (c before after : List ℕ) (r : Checked) → Bytes c → Checks kind today c before after r → (t : ℕ) → r.verdict.tag ≡ Of t
+  pub tag_at_place : (kind today : ℕ) (c before after : List ℕ) (r : Checked) → Bytes c → Checks kind today c before after r → (t : ℕ) → r.verdict.tag ≡ Some t
       → take (long t) (drop r.verdict.place c) ≡ tag_bytes t
   -- "`--` for 0, for outer faults, for a row missing at the end and for numbers that carry no place": exactly where the place is 0 or the container's end
   pub no_tag_when : (kind today : ℕ) (c before after : List ℕ) (r : Checked) → Checks kind today c before after r
-      → (r.verdict.tag ≡ NoTag) ↔ ((r.verdict.place ≡ 0) ⊎ (r.verdict.place ≡ length c))
+      → (r.verdict.tag ≡ None) ↔ ((r.verdict.place ≡ 0) ⊎ (r.verdict.place ≡ length c))
   -- none is no number that a tag can be: so where a tag is told by its number, none can be told from every tag, from a byte 00 too
   pub tag_is_none : (kind today : ℕ) (c before after : List ℕ) (r : Checked) → Bytes c → Checks kind today c before after r
-      → (tag_number r.verdict.tag ≡ no_tag) ↔ (r.verdict.tag ≡ NoTag)
+      → (tag_number r.verdict.tag ≡ no_tag) ↔ (r.verdict.tag ≡ None)
   -- it is the verdict of the bytes, of which demand 3 speaks; it does not depend on the room: with any two it is the same
   pub judged : (kind today : ℕ) (c before after : List ℕ) (r : Checked) → Bytes c → Checks kind today c before after r → Judges kind today c r.verdict
   pub any_room : (kind today : ℕ) (c before₁ before₂ after₁ after₂ : List ℕ) (r₁ r₂ : Checked) → Bytes c
@@ -196,7 +194,7 @@ pub record Demand2 : Type 0 where
   pub write_only_first : (kind today : ℕ) (s before after : List ℕ) (r : Done) → Bytes s → Writes kind today s before after r → (f : Finding)
       → Refused kind today s (length before) f → r ≡ done_of (refusal f)
   pub write_tag_is_none : (kind today : ℕ) (s before after : List ℕ) (r : Done) → Writes kind today s before after r
-      → (tag_number r.tag ≡ no_tag) ↔ (r.tag ≡ NoTag)
+      → (tag_number r.tag ≡ no_tag) ↔ (r.tag ≡ None)
   -- a room with six bytes more than the container takes its sheet, and so one of 32,774 takes any
   pub room_for_sheet : (kind today : ℕ) (c before after : List ℕ) (r : Checked) → Checks kind today c before after r → length c + 6 ≤ length before → r.room ≡ 0
   -- "Writing the values that were read gives the container back byte for byte", 2026-01: "a container in fewest bytes comes back byte for byte"
@@ -219,18 +217,18 @@ pub record Demand2 : Type 0 where
       → (element : ℕ) (at : ℕ × ℕ) (number place tag : ℕ) (part : ℕ × ℕ) (bytes : List ℕ) → Views kind today c element at number place tag part bytes
       → (number ≡ v.number) × (place ≡ v.place) × (tag ≡ tag_number v.tag) × (part ≡ at) × (bytes ≡ [])
   -- a view of a row, whose tag is t, shows the row's value where it stands; 6, no tag and no bytes for an absent row and for a tag of no row
-  pub view_value : (kind today : ℕ) (c : List ℕ) → Bytes c → (vs : Values) → Conforms kind today vs c → (i t : ℕ) (o : Bool) → row_at kind i ≡ Holds t o
+  pub view_value : (kind today : ℕ) (c : List ℕ) → Bytes c → (vs : Values) → Conforms kind today vs c → (i t : ℕ) (o : Bool) → row_at kind i ≡ Some (record { tag = t; optional = o })
       → (v : List ℕ) → get_or vs i none ≡ some v → (at : ℕ × ℕ) (number place tag : ℕ) (part : ℕ × ℕ) (bytes : List ℕ) → Views kind today c t at number place tag part bytes
       → Shown c v at number place tag part bytes
   -- "its place and length are fixed": it starts behind the outer tag and length, the elements of the rows before it, and its own tag and length, as these
   -- stand in the container that was given
-  pub view_place : (kind today : ℕ) (c : List ℕ) → Bytes c → (vs : Values) (h : Conforms kind today vs c) → (i t : ℕ) (o : Bool) → row_at kind i ≡ Holds t o
+  pub view_place : (kind today : ℕ) (c : List ℕ) → Bytes c → (vs : Values) (h : Conforms kind today vs c) → (i t : ℕ) (o : Bool) → row_at kind i ≡ Some (record { tag = t; optional = o })
       → (v : List ℕ) → get_or vs i none ≡ some v
       → (at : ℕ × ℕ) (number place tag : ℕ) (part : ℕ × ℕ) (bytes : List ℕ) → Views kind today c t at number place tag part bytes → part.1 ≡ at.1 + place_of kind vs h.forms i t
-  pub view_absent : (kind today : ℕ) (c : List ℕ) → Bytes c → (vs : Values) → Conforms kind today vs c → (i t : ℕ) (o : Bool) → row_at kind i ≡ Holds t o
+  pub view_absent : (kind today : ℕ) (c : List ℕ) → Bytes c → (vs : Values) → Conforms kind today vs c → (i t : ℕ) (o : Bool) → row_at kind i ≡ Some (record { tag = t; optional = o })
       → get_or vs i none ≡ none → (at : ℕ × ℕ) (number place tag : ℕ) (part : ℕ × ℕ) (bytes : List ℕ) → Views kind today c t at number place tag part bytes
       → (number ≡ number_of NoElement) × (tag ≡ no_tag) × (bytes ≡ [])
-  pub view_foreign : (kind today : ℕ) (c : List ℕ) → Bytes c → (vs : Values) → Conforms kind today vs c → (t : ℕ) → ((i : ℕ) (o : Bool) → row_at kind i ≡ Holds t o → ⊥)
+  pub view_foreign : (kind today : ℕ) (c : List ℕ) → Bytes c → (vs : Values) → Conforms kind today vs c → (t : ℕ) → ((i : ℕ) (o : Bool) → row_at kind i ≡ Some (record { tag = t; optional = o }) → ⊥)
       → (at : ℕ × ℕ) (number place tag : ℕ) (part : ℕ × ℕ) (bytes : List ℕ) → Views kind today c t at number place tag part bytes
       → (number ≡ number_of NoElement) × (tag ≡ no_tag) × (bytes ≡ [])
   -- a FASC-N alone: decoded exactly when there are nine numbers in range whose bytes these are; there and back
@@ -272,7 +270,7 @@ pub record Demand3 : Type 0 where
       → let report : List ℕ = report_text kind today (length c) (parsed kind today c) in
       (r.number ≡ 0) × (r.length ≡ length report) × (r.length ≤ 512) × (after ≡ filled report (length before))
   -- 2026-02: the report's own answer names no place and no tag, whatever the container; those of a broken rule stand in the report
-  pub names_nothing : (kind today : ℕ) (c before after : List ℕ) (r : Done) → Reports kind today c before after r → (r.place ≡ 0) × (r.tag ≡ NoTag)
+  pub names_nothing : (kind today : ℕ) (c before after : List ℕ) (r : Done) → Reports kind today c before after r → (r.place ≡ 0) × (r.tag ≡ None)
   -- the agency and the system among the open values are those of the nine numbers whose FASC-N it is
   pub open_numbers : (f : List ℕ) (n : Numbers) → IsFascnOf f n → (agency_of f ≡ n.agency) × (system_of f ≡ n.system)
 
@@ -327,7 +325,7 @@ pub record NoLongReport : Type 0 where
 -- ---- 2026-10. "From a conforming FINGERS container fill the caller's list of points (type, x, y, angle, quality), first view then second, and give both
 -- counts. .. Each point, put back, gives its six bytes. A plain form that fills five number lists comes first, and the list of points is proved equal to it.
 -- This list never goes into a desk report, and demand 3 is unchanged. Refusals: 3 if the list is shorter than the sum of the counts, after the check; a refusal
--- gives both counts as 0." (Of entries past the last and of refusals `lists_clean` and `points_clean` speak.)
+-- gives both counts as 0." (Some entries past the last and of refusals `lists_clean` and `points_clean` speak.)
 
 -- how long each of five lists is
 abbrev pub sizes : Five → List ℕ
@@ -540,10 +538,10 @@ pub record DamageRefused : Type 0 where
   -- tag, whatever follows the FASC-N
   pub chuid_refused : (today : ℕ) (c d f : List ℕ) (at : ℕ) → Bytes c → Bytes d → (x : Element 2 today c 0x30 f at) → DamagedIn c d f at
       → (before after : List ℕ) (r : Checked) → Checks 2 today d before after r
-      → r.verdict ≡ record { number = number_of BadFascn; place = element_place 2 x.values x.conforms.forms x.row; tag = Of 0x30 }
+      → r.verdict ≡ record { number = number_of BadFascn; place = element_place 2 x.values x.conforms.forms x.row; tag = Some 0x30 }
   pub header_refused : (kind today : ℕ) → IsBiometric kind → (c d v : List ℕ) (at : ℕ) → Bytes c → Bytes d → (x : Element kind today c 0xBC v at)
       → DamagedIn c d (part v 59 25) (at + 59) → (before after : List ℕ) (r : Checked) → Checks kind today d before after r
-      → r.verdict ≡ record { number = number_of BadFascn; place = element_place kind x.values x.conforms.forms x.row; tag = Of 0xBC }
+      → r.verdict ≡ record { number = number_of BadFascn; place = element_place kind x.values x.conforms.forms x.row; tag = Some 0xBC }
   -- a container is damaged so where the damaged FASC-N is put into the place of the other, and all else is as it was
   pub put_in_place : (c f t : List ℕ) (at : ℕ) → at + 25 ≤ length c → Damaged six f t → DamagedIn c (take at c ++ (t ++ drop (at + 25) c)) f at
   -- "Seven is too many: two neighbouring digits 00 turned into 33": wherever they stand, one FASC-N is the other damaged within seven bits; and there are such

@@ -12,7 +12,6 @@ use Rattle.laws.specs.Room.{zeros, filled}
 use Rattle.laws.proofs.Cases.{which}
 use Rattle.laws.proofs.Rooms.{filled_none}
 use Rattle.verdicts.specs.Verdicts.{verdict_of}
-use Rattle.verdicts.specs.declared.Outcome.TheVariants.{Fine, Broken}
 use Rattle.verdicts.specs.declared.Verdict.{Verdict}
 use Rattle.container.specs.Container.{Values, Conforms}
 use Rattle.container.specs.Reading.{Parsed, values, fault, parsed, outcome}
@@ -23,6 +22,7 @@ use Rattle.sheet.specs.Sheet.{sheet_of}
 use Rattle.sheet.specs.Calls.{Given, short, fits, breaks, conforms}
 use Rattle.sheet.specs.declared.Checked.{Checked}
 use Rattle.prosianek.specs.Calls.{Judges, Checks}
+use Rattle.std.specs.Prelude.{Ok, Err}
 
 joined : {v : Verdict} {m l : ℕ} {r : Checked} → r.verdict ≡ v → r.room ≡ m → r.length ≡ l → r ≡ record { verdict = v; room = m; length = l }
 joined v m l = λ i. record { verdict = v i; room = m i; length = l i }
@@ -30,10 +30,10 @@ joined v m l = λ i. record { verdict = v i; room = m i; length = l i }
 -- ---- the same, computed: what is answered, and what is written into a room of so many bytes, by what is read of the bytes
 
 abbrev pub answer : Parsed (List ℕ) → ℕ → Checked
-answer (fault f) room = record { verdict = verdict_of (Broken f); room = 0; length = 0 }
+answer (fault f) room = record { verdict = verdict_of (Err f); room = 0; length = 0 }
 answer (values vs) room =
-    cond (ltb room (length (sheet_of vs))) (record { verdict = verdict_of Fine; room = 3; length = 0 })
-    (record { verdict = verdict_of Fine; room = 0; length = length (sheet_of vs) })
+    cond (ltb room (length (sheet_of vs))) (record { verdict = verdict_of (Ok tt); room = 3; length = 0 })
+    (record { verdict = verdict_of (Ok tt); room = 0; length = length (sheet_of vs) })
 
 abbrev pub output : Parsed (List ℕ) → ℕ → List ℕ
 output (fault f) room = []

@@ -72,14 +72,12 @@ pub fn lists(
 pub fn points(today: u64, container: &[u8], list: &mut [Point]) -> Listed
     ensures { Points today container.now list.old list.new result }
 {
-    let plan = points::locate(today, container, list.len());
-    let mut i: usize = 0;
-    while i < list.len() {
-        let point = points::entry(container, plan, i);
-        list[i] = point;
-        i += 1;
+    let located = points::locate(today, container, list.len());
+    let plan = located.unwrap_or_default();
+    for (i, point) in list.iter_mut().enumerate() {
+        *point = points::entry(container, plan, i);
     }
-    points::answer(plan)
+    located.into()
 }
 
 // The certificate of who signed a biometric of this kind, as a part of the biometric or of the CHUID; which is 0 for neither, 1
@@ -103,14 +101,14 @@ pub fn signer<'a>(
 pub fn decode(bytes: &[u8]) -> Decoded
     ensures { Decodes bytes.now result }
 {
-    fascn::decode(bytes)
+    fascn::decode(bytes).into()
 }
 
 // The FASC-N of nine numbers.
 pub fn encode(numbers: Numbers, room: &mut [u8]) -> u64
     ensures { Encodes numbers room.old room.new result }
 {
-    fascn::encode(numbers, room)
+    verdicts::code_of(fascn::encode(numbers, room))
 }
 
 // A folder is gone over before any container of it is looked at: a piece of it more, of any size. The state begins as zeros.
@@ -124,7 +122,7 @@ pub fn folder_step(state: State, piece: &[u8]) -> State
 pub fn folder_end(today: u64, state: State) -> u64
     ensures { FolderEnds today state result }
 {
-    pieces::finish(today, state)
+    verdicts::code_of(pieces::finish(today, state))
 }
 
 // The row of a folder's container, whose first byte stands at this offset of the folder and which has this size: one over 32,768

@@ -11,20 +11,19 @@ use Rattle.laws.specs.Bytes.{Bytes}
 use Rattle.laws.specs.Format.{Format, end, Laid, Agrees, kept, breaks, counted}
 use Rattle.laws.proofs.Formats.{format-exact, inside, skim, skim-keeps, kept_if}
 use Rattle.records.specs.Fills.{fills, whole}
-use Rattle.records.specs.declared.Extent.{Extent}
-use Rattle.records.specs.declared.Extent.TheVariants.{Takes}
+use Rattle.std.specs.Prelude.{Option, Some}
 use Rattle.records.proofs.Ways.{fills-told, fills-whole, whole-told, by_parts}
 
 -- what `extent` has to do with fields of a table: these are kept where a test of the bytes from an offset on is true, and then take so many bytes, behind
 -- which the table goes on; and `extent` tells that number where the test is true and the bytes are there
-pub record Extends (fields : Format (Unit {0}) → Format (Unit {0})) (extent : List ℕ → Extent) : Type 1 where
+pub record Extends (fields : Format (Unit {0}) → Format (Unit {0})) (extent : List ℕ → Option ℕ) : Type 1 where
   pub test : ℕ → List ℕ → Bool
   pub size : ℕ → List ℕ → ℕ
   pub judged : (k : Format (Unit {0})) (at : ℕ) (d : List ℕ) → skim (fields k) at d ≡ cond (test at d) (skim k (at + size at d) d) (breaks tt)
-  pub told : (at : ℕ) (d : List ℕ) (n : ℕ) → extent (drop at d) ≡ Takes n → (test at d ≡ true) × (n ≡ size at d)
-  pub tells : (at : ℕ) (d : List ℕ) → test at d ≡ true → at + size at d ≤ length d → extent (drop at d) ≡ Takes (size at d)
+  pub told : (at : ℕ) (d : List ℕ) (n : ℕ) → extent (drop at d) ≡ Some n → (test at d ≡ true) × (n ≡ size at d)
+  pub tells : (at : ℕ) (d : List ℕ) → test at d ≡ true → at + size at d ≤ length d → extent (drop at d) ≡ Some (size at d)
 
-module _ (fields : ℕ → Format (Unit {0}) → Format (Unit {0})) (extent : ℕ → List ℕ → Extent) (x : (more : ℕ) → Extends (fields more) (extent more)) where
+module _ (fields : ℕ → Format (Unit {0}) → Format (Unit {0})) (extent : ℕ → List ℕ → Option ℕ) (x : (more : ℕ) → Extends (fields more) (extent more)) where
   true-kept : (m at : ℕ) (d : List ℕ) → fills extent m at d ≡ true → skim (counted m fields (end tt)) at d ≡ kept
   true-kept zero at d e = rw (eq-eqb _ _ (fills-whole extent at d e))
   true-kept (suc m) at d e =

@@ -10,20 +10,19 @@ use lib.Dec.{leb, eqb}
 use borrow.Author.Tests.{eqb-true, leb-true, le-leb, lt-leb}
 use Rattle.laws.proofs.Cases.{and-true}
 use Rattle.records.specs.Fills.{behind, fills, whole}
-use Rattle.records.specs.declared.Extent.{Extent}
-use Rattle.records.specs.declared.Extent.TheVariants.{Takes, None}
+use Rattle.std.specs.Prelude.{Option, Some, None}
 
 -- a test says how many bytes there are, or none
-pub takes_of : (b : Bool) (x : Extent) {n : ℕ} → cond b x None ≡ Takes n → (b ≡ true) × (x ≡ Takes n)
+pub takes_of : (b : Bool) (x : Option ℕ) {n : ℕ} → cond b x None ≡ Some n → (b ≡ true) × (x ≡ Some n)
 takes_of true x e = (refl, e)
 takes_of false x e = let z : ◌≡◌ {A = ℕ} 0 1 = cc in absurd (omega arith)
 
-behind-told : (x : Extent) (f : ℕ → Bool) → behind x f ≡ true → (n : ℕ) × (x ≡ Takes n) × (f n ≡ true)
-behind-told (Takes n) f e = (n, refl, e)
+behind-told : (x : Option ℕ) (f : ℕ → Bool) → behind x f ≡ true → (n : ℕ) × (x ≡ Some n) × (f n ≡ true)
+behind-told (Some n) f e = (n, refl, e)
 behind-told None f e = absurd (false≢true e)
 
-module _ (extent : ℕ → List ℕ → Extent) where
-  pub fills-next : (m at : ℕ) (d : List ℕ) {n : ℕ} → 0 < m → Takes n ≡ extent (m - 1) (drop at d) → fills extent (m - 1) (at + n) d ≡ fills extent m at d
+module _ (extent : ℕ → List ℕ → Option ℕ) where
+  pub fills-next : (m at : ℕ) (d : List ℕ) {n : ℕ} → 0 < m → Some n ≡ extent (m - 1) (drop at d) → fills extent (m - 1) (at + n) d ≡ fills extent m at d
   unfolding fills
   fills-next zero at d h e = absurd (not-suc-le-zero h)
   fills-next (suc m) at d h e = let p : suc m - 1 ≡ m = omega arith in rw (← rw p at e, p)
@@ -61,7 +60,7 @@ module _ (extent : ℕ → List ℕ → Extent) where
       let h = and-true (leb front (length d)) head a.0 in
       (leb-true _ _ h.0, h.1, a.1)
 
-  pub fills-told : (m at : ℕ) (d : List ℕ) → fills extent (suc m) at d ≡ true → (n : ℕ) × (extent m (drop at d) ≡ Takes n) × (fills extent m (at + n) d ≡ true)
+  pub fills-told : (m at : ℕ) (d : List ℕ) → fills extent (suc m) at d ≡ true → (n : ℕ) × (extent m (drop at d) ≡ Some n) × (fills extent m (at + n) d ≡ true)
   unfolding fills
   fills-told m at d e = behind-told (extent m (drop at d)) (λ n. fills extent m (at + n) d) e
 

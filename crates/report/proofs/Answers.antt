@@ -1,7 +1,7 @@
 -- What `report` answers: 1, 2, 3, 4, or the report of what was read. Assumes nothing.
 use Prim.Native.Nat.{ℕ, ◌≤◌, ◌<◌}
 use mathlib.Core.Logic.{inl, inr}
-use mathlib.Core.Path.{◌≡◌, refl}
+use mathlib.Core.Path.{◌≡◌, refl, sym, ap}
 use mathlib.Core.Bool.{true, false}
 use mathlib.Core.List.{List}
 use lib.Dec.{ltb, leb}
@@ -14,7 +14,6 @@ use Rattle.dates.proofs.Dates.{date-exact}
 use Rattle.kinds.specs.Tables.{is_kind}
 use Rattle.verdicts.specs.Verdicts.{outright}
 use Rattle.verdicts.specs.Output.{Output, refusal, text, done_of}
-use Rattle.verdicts.specs.declared.Tag.TheVariants.{NoTag}
 use Rattle.verdicts.specs.declared.Fault.{Fault}
 use Rattle.verdicts.specs.declared.Fault.TheVariants.{UnknownKind, NoDate, SmallRoom, LargeContainer}
 use Rattle.container.specs.Container.{Values, Conforms, largest}
@@ -23,6 +22,18 @@ use Rattle.container.proofs.Promise.{kind-exact, conforms-parsed}
 use Rattle.report.specs.Report.{report_text}
 use Rattle.report.specs.Calls.{report_room, report_output}
 use Rattle.report.proofs.Bound.{never-over}
+use Rattle.container.specs.Reading.{located}
+use Rattle.container.specs.Map.{map_of}
+use Rattle.container.specs.Judged.{Of, contents}
+use Rattle.container.specs.declared.conforming.Conforming.{Conforming}
+use Rattle.container.proofs.Lying.{read-fine}
+use Rattle.std.specs.Borrow.{Bor}
+use Rattle.std.specs.Prelude.{None, Ok}
+
+-- what is told of a container that conforms is the report of what is read of its bytes
+pub told-fine : (kind today : ℕ) (c : Bor (List ℕ)) → Bytes c.now → {m : Conforming} → Ok m.rows.spans ≡ map_of (located kind today c.now) → Of kind today c m
+    → report_text m.kind m.today (length m.rows.bytes.now) (values (contents m)) ≡ report_text kind today (length c.now) (parsed kind today c.now)
+told-fine kind today c b {m} e o = rw (o.kind_is, o.today_is, o.bytes_are) (ap (report_text kind today (length c.now)) (sym (read-fine kind today c.now e b)))
 
 module _ (kind today : ℕ) (c : List ℕ) (room : ℕ) where
   pub report-1 : is_kind kind ≡ false → report_output kind today c room ≡ refusal (outright UnknownKind)
@@ -77,5 +88,5 @@ module _ (kind today : ℕ) (c : List ℕ) (room : ℕ) where
       ]
 
 -- so its own answer names no place and no tag
-pub names_nothing : (kind today : ℕ) (c : List ℕ) (room : ℕ) → let d = done_of (report_output kind today c room) in (d.place ≡ 0) × (d.tag ≡ NoTag)
-names_nothing kind today c room = report-cases kind today c room (λ o. ((done_of o).place ≡ 0) × ((done_of o).tag ≡ NoTag)) (λ f. (refl, refl)) (λ t l s. (refl, refl))
+pub names_nothing : (kind today : ℕ) (c : List ℕ) (room : ℕ) → let d = done_of (report_output kind today c room) in (d.place ≡ 0) × (d.tag ≡ None)
+names_nothing kind today c room = report-cases kind today c room (λ o. ((done_of o).place ≡ 0) × ((done_of o).tag ≡ None)) (λ f. (refl, refl)) (λ t l s. (refl, refl))

@@ -21,7 +21,6 @@ use Rattle.texts.proofs.Bounds.{decimal-grows}
 use Rattle.kinds.specs.Tables.{tables, table, IsKind}
 use Rattle.kinds.proofs.Every.{of-each}
 use Rattle.verdicts.specs.Verdicts.{verdict_of}
-use Rattle.verdicts.specs.declared.Outcome.TheVariants.{Fine, Broken}
 use Rattle.verdicts.proofs.Apart.{number_small}
 use Rattle.container.specs.Container.{largest}
 use Rattle.container.specs.Reading.{Parsed, values, fault, parsed}
@@ -36,6 +35,7 @@ use Rattle.opens.proofs.Bound.{open_length, open-length}
 use Rattle.report.specs.Report.{report_text}
 use Rattle.report.specs.Calls.{report_room}
 use Rattle.report.specs.Longest.{longest, longest_of}
+use Rattle.std.specs.Prelude.{Ok, Err}
 
 -- ---- the figures
 
@@ -85,7 +85,7 @@ report-length kind today c k h = go (parsed kind today c) (measured kind today c
     go (values vs) m =
         omega (
           arith,
-          three-long (card_part kind (length c) today (verdict_of Fine)) (elements_part (table kind) (shape vs)) (open_part (open_of kind vs)),
+          three-long (card_part kind (length c) today (verdict_of (Ok tt))) (elements_part (table kind) (shape vs)) (open_part (open_of kind vs)),
           card-length kind (length c) today,
           decimal-grows (length c) (size_of kind) (size-within kind (length c) m.1 h),
           elements-most (table kind) vs m.0,
@@ -94,7 +94,7 @@ report-length kind today c k h = go (parsed kind today c) (measured kind today c
         )
     go (fault f) m =
         simp length-append
-        (omega (arith, card-most kind (length c) today (verdict_of (Broken f)) (omega arith) (number_small f.fault) (omega arith), (as-computed kind k).1))
+        (omega (arith, card-most kind (length c) today (verdict_of (Err f)) (omega arith) (number_small f.fault) (omega arith), (as-computed kind k).1))
 
 pub never-over : (kind today : ℕ) (c : List ℕ) → IsKind kind → length c ≤ largest → length (report_text kind today (length c) (parsed kind today c)) ≤ report_room
 never-over kind today c k h = le_trans (report-length kind today c k h) (under-room kind)

@@ -16,7 +16,6 @@ use Rattle.verdicts.specs.Verdicts.{verdict_of}
 use Rattle.verdicts.proofs.Apart.{one-outcome}
 use Rattle.verdicts.specs.declared.Done.{Done}
 use Rattle.verdicts.specs.declared.Finding.{Finding}
-use Rattle.verdicts.specs.declared.Outcome.TheVariants.{Broken}
 use Rattle.verdicts.proofs.Outputs.{settled}
 use Rattle.container.specs.Container.{Values, Spellings, Forms, long, spelled, container_in, Conforms}
 use Rattle.container.specs.Reading.{Parsed, values, fault, parsed, outcome_of, outcome, verdict}
@@ -25,6 +24,7 @@ use Rattle.elements.specs.Elements.{shape}
 use Rattle.opens.specs.Open.{open_of}
 use Rattle.report.specs.Report.{report_text}
 use Rattle.report.specs.Calls.{report_output}
+use Rattle.std.specs.Prelude.{Err}
 
 -- ---- what hangs on the shape alone
 
@@ -96,7 +96,7 @@ same-fault : (kind today : ℕ) (c d : List ℕ) (f : Finding) → parsed kind t
     → (room : ℕ) → report_output kind today c room ≡ report_output kind today d room
 same-fault kind today c d f h k l = same-output kind today c d l (rw (h, k, l))
 
-broken-fault : (p : Parsed (List ℕ)) (f : Finding) → outcome_of p ≡ Broken f → p ≡ fault f
+broken-fault : (p : Parsed (List ℕ)) (f : Finding) → outcome_of p ≡ Err f → p ≡ fault f
 broken-fault (values vs) f e = let z : ◌≡◌ {A = ℕ} 0 1 = cc in absurd (omega arith)
 broken-fault (fault g) f e = cc
 

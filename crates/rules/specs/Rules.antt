@@ -1,25 +1,24 @@
 -- 01, "Values", and requests 2026-03 to 2026-06: what each rule of the tables says of a value, under a date; and the fault that breaking it is.
-use Rattle.std.specs.Prelude.{ℕ, ◌≡◌, List, [], ◌∷◌, length}
+use Rattle.std.specs.Prelude.{ℕ, ◌≡◌, cond, List, [], ◌∷◌, length}
 use Rattle.laws.specs.Tests.{same}
 use Rattle.laws.specs.Format.{FirstBroken, judge}
-use Rattle.verdicts.specs.Verdicts.{unless, ruled}
-use Rattle.verdicts.specs.declared.Ruling.{Ruling}
-use Rattle.verdicts.specs.declared.Ruling.TheVariants.{Kept, Breaks}
+use Rattle.verdicts.specs.Verdicts.{Ruling, unless, ruled}
 use Rattle.verdicts.specs.declared.Fault.{Fault}
-use Rattle.verdicts.specs.declared.Fault.TheVariants.{BadFascn, BadUuid, BadDate, BadFixed, BadText}
+use Rattle.verdicts.specs.declared.Fault.TheVariants.{BadFascn, BadUuid, BadDate, BadFixed, BadText, ElementLength}
+use Rattle.kinds.specs.Tables.{permitted}
+use Rattle.kinds.specs.declared.Row.{Row}
 use Rattle.kinds.specs.declared.ValueRule.{ValueRule}
 use Rattle.kinds.specs.declared.ValueRule.TheVariants.{Free, Fascn, Uuid, Expiry, Model, Application, Policy, Text, Date, Fingers, Face, Iris, Certificate, CertInfo}
 use Rattle.fascn.specs.Fascn.{IsFascn}
 use Rattle.fascn.specs.Reading.{is_fascn}
 use Rattle.dates.specs.Date.{IsTextOf, InWindow, date_of, in_window}
 use Rattle.dates.specs.Printed.{IsPrintedDate, is_printed_date}
-use Rattle.dates.specs.declared.Date.{Date as TextDate}
-use Rattle.dates.specs.declared.Date.TheVariants.{Is, Not}
 use Rattle.plain.specs.Plain.{Uuid as IsUuid, is_uuid, IsPolicy, is_policy, Text as IsText, is_text}
 use Rattle.cbeff.specs.Header.{fingers, face, iris, header, IsBiometric}
 use Rattle.der.specs.Der.{IsCertificate}
 use Rattle.der.specs.Walk.{certificate}
 use Rattle.der.specs.Faults.{NoCertificate}
+use Rattle.std.specs.Prelude.{Option, Some, None, Ok, Err}
 
 -- "4F 11, value A0 00 00 03 08 00 00 10 00 01 00"
 abbrev pub application : List ℕ
@@ -75,12 +74,12 @@ Violates CertInfo today v f = (Keeps CertInfo today v → ⊥) × (f ≡ BadFixe
 
 -- ---- the same as tests
 
-abbrev pub expires : ℕ → TextDate → Ruling
-expires today (Is e) = unless BadDate (in_window today e)
-expires today Not = Breaks BadDate
+abbrev pub expires : ℕ → Option ℕ → Ruling
+expires today (Some e) = unless BadDate (in_window today e)
+expires today None = Err BadDate
 
 abbrev pub tested : ValueRule → ℕ → List ℕ → Ruling
-tested Free today v = Kept
+tested Free today v = Ok tt
 tested Fascn today v = unless BadFascn (is_fascn v)
 tested Uuid today v = unless BadUuid (is_uuid v)
 tested Expiry today v = expires today (date_of v)
@@ -97,3 +96,7 @@ tested CertInfo today v = unless BadFixed (same v cert_info)
 
 unfoldable pub rule_of : ValueRule → ℕ → List ℕ → Ruling
 rule_of rule today v = tested rule today v
+
+-- "16, then its value's rules": of a value of a table's row
+abbrev pub fitting : Row → ℕ → List ℕ → Ruling
+fitting r today v = cond (permitted r.lengths (length v)) (rule_of r.rule today v) (Err ElementLength)

@@ -3,41 +3,36 @@
 
 ghost use Rattle.std.specs.Prelude.{◌≡◌};
 ghost use Rattle.verdicts.specs.Verdicts.{unless};
-ghost use Rattle.rules.specs.Rules.{expires, rule_of};
+ghost use Rattle.rules.specs.Rules.{expires, rule_of, fitting};
 
 use cbeff::{face, fingers, iris};
-use dates::Date;
-use kinds::ValueRule;
-use verdicts::{Fault, Ruling};
+use kinds::{Row, ValueRule};
+use verdicts::Fault;
 
 // What a test with one fault answers.
-fn unless(f: Fault, kept: bool) -> Ruling
+fn unless(f: Fault, kept: bool) -> Result<(), Fault>
     ensures { result ≡ unless f kept }
 {
-    if kept {
-        return Ruling::Kept;
-    }
-    Ruling::Breaks(f)
+    if kept { Ok(()) } else { Err(f) }
 }
 
 // "CHUID expiry e and today t": a date, and in its window.
-fn expiry(today: u64, d: Date) -> Ruling
+fn expiry(today: u64, d: Option<u64>) -> Result<(), Fault>
     ensures { result ≡ expires today d }
 {
-    match d {
-        Date::Is(e) => unless(Fault::BadDate, dates::in_window(today, e)),
-        Date::Not => Ruling::Breaks(Fault::BadDate),
-    }
+    let expiry = d.ok_or(Fault::BadDate)?;
+    unless(Fault::BadDate, dates::in_window(today, expiry))
 }
 
 // Whether a value keeps the rule under the date today, or which fault it has. The judges of the biometric records and of
 // certificates stay calls: they get a part that is made for them, and their answer goes through a local, so that the compiler
 // keeps the value and the answer of every other rule in registers.
-pub fn judge(rule: ValueRule, today: u64, v: &[u8]) -> Ruling
+#[tactic(auto, unfolding(crate::specs::Rules::rule_of), using(laws::proofs::Turns::rest))]
+pub fn judge(rule: ValueRule, today: u64, v: &[u8]) -> Result<(), Fault>
     ensures { result ≡ rule_of rule today v.now }
 {
     match rule {
-        ValueRule::Free => Ruling::Kept,
+        ValueRule::Free => Ok(()),
         ValueRule::Fascn => unless(Fault::BadFascn, fascn::is_fascn(v)),
         ValueRule::Uuid => unless(Fault::BadUuid, plain::is_uuid(v)),
         ValueRule::Expiry => expiry(today, dates::date_of(v)),
@@ -66,5 +61,20 @@ pub fn judge(rule: ValueRule, today: u64, v: &[u8]) -> Ruling
             answer
         }
         ValueRule::CertInfo => unless(Fault::BadFixed, plain::same(v, b"\x00")),
+    }
+}
+
+// Whether a value is one that a row may have: 16, then its rules.
+#[tactic(auto, unfolding(crate::specs::Rules::rule_of))]
+pub fn fits(row: Row, today: u64, v: &[u8]) -> Result<(), Fault>
+    ensures { result ≡ fitting row today v.now }
+{
+    if !row.lengths.permit(v.len()) {
+        return Err(Fault::ElementLength);
+    }
+    match row.rule {
+        // most values are free: they are told here, without a call
+        ValueRule::Free => Ok(()),
+        rule => judge(rule, today, v),
     }
 }

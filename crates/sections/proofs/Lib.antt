@@ -1,4 +1,3 @@
-pub mod Judging
 pub mod Opened
 pub mod Rows
 pub mod Ways

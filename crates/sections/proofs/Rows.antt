@@ -10,29 +10,28 @@ use native.Mathlib.Numerals.{add-one}
 use native.Mathlib.Omega.{arith}
 use lib.Dec.{eqb}
 use lib.Seq.{drop-nil, drop-drop}
-use lib.ListN.{length, get_or, drop, length-append, drop_of_length-le}
+use lib.ListN.{length, get_or, drop, length-append, drop_of_length-le, length-take}
 use borrow.Author.Tests.{eqb-false, ne_eqb, eq-eqb}
 use Rattle.laws.specs.Layout.{part}
 use Rattle.laws.proofs.Cases.{which}
 use Rattle.kinds.specs.Tables.{Entry, Table, table, permitted, find, first, row_of, row_at}
-use Rattle.kinds.specs.declared.Slot.TheVariants.{Holds, End}
+use Rattle.kinds.specs.declared.Slot.{Slot}
 use Rattle.kinds.proofs.Every.{few-rows}
 use Rattle.lengths.specs.Length.{length_bytes}
 use Rattle.rules.specs.Rules.{rule_of}
-use Rattle.verdicts.specs.Verdicts.{found}
+use Rattle.verdicts.specs.Verdicts.{Ruling, found}
 use Rattle.verdicts.specs.declared.Fault.{Fault}
 use Rattle.verdicts.specs.declared.Fault.TheVariants.{MissingRow, ElementLength}
-use Rattle.verdicts.specs.declared.Tag.TheVariants.{Of}
-use Rattle.verdicts.specs.declared.Ruling.{Ruling}
-use Rattle.verdicts.specs.declared.Ruling.TheVariants.{Kept, Breaks}
 use Rattle.container.specs.Container.{Values, tag_bytes, has, encode}
+use Rattle.container.specs.Spans.{Inside, absent}
+use Rattle.container.specs.declared.rows.Span.{Span}
 use Rattle.container.specs.Map.{row_value, row_values}
-use Rattle.container.proofs.Rows.{Distinct}
+use Rattle.verdicts.specs.declared.Finding.{Finding}
+use Rattle.container.proofs.Walking.{Distinct}
 use Rattle.container.proofs.Tags.{distinct, tags, Plain, Tags, plain-small}
 use Rattle.sections.specs.Opened.{kept_or, judged}
 use Rattle.sections.specs.Passes.{judged_by, plan_of}
-use Rattle.sections.specs.declared.Plan.{Plan}
-use Rattle.sections.specs.declared.Plan.TheVariants.{Refuse, Takes}
+use Rattle.std.specs.Prelude.{Some, None, Result, Ok, Err}
 
 -- ---- the row with a number, and the rows after it
 
@@ -42,20 +41,23 @@ pub record Next (kind i tag : ℕ) (optional : Bool) : Type 0 where
   pub tag_is : row.tag ≡ tag
   pub optional-is : row.optional ≡ optional
 
-pub next : (kind i : ℕ) {tag : ℕ} {optional : Bool} → Holds tag optional ≡ row_at kind i → Next kind i tag optional
+pub next : (kind i : ℕ) {tag : ℕ} {optional : Bool} → Some (record { tag = tag; optional = optional }) ≡ row_at kind i → Next kind i tag optional
 next kind i {tag} {optional} e = go (drop i (table kind)) refl e
   where
-    go : (rows : Table) → drop i (table kind) ≡ rows → Holds tag optional ≡ first rows → Next kind i tag optional
+    go : (rows : Table) → drop i (table kind) ≡ rows → Some (record { tag = tag; optional = optional }) ≡ first rows → Next kind i tag optional
     go [] q f = let z : ◌≡◌ {A = ℕ} 0 1 = cc in absurd (omega arith)
     go (r ∷ rs) q f =
         let l : drop (i + 1) (table kind) ≡ rs = sym (drop-drop 1 i (table kind)) ∙ ap (drop 1) q in
-        record { row = r; split = rw l q; tag_is = cc; optional-is = cc }
+        let here : Slot = record { tag = tag; optional = optional } in
+        let there : Slot = record { tag = r.tag; optional = r.optional } in
+        let g : here ≡ there = cc in
+        record { row = r; split = rw l q; tag_is = sym (ap (λ (x : Slot). x.tag) g); optional-is = sym (ap (λ (x : Slot). x.optional) g) }
 
 -- no row is left
-pub no_row : (kind i : ℕ) → End ≡ row_at kind i → drop i (table kind) ≡ []
+pub no_row : (kind i : ℕ) → None ≡ row_at kind i → drop i (table kind) ≡ []
 no_row kind i e = go (drop i (table kind)) e
   where
-    go : (rows : Table) → End ≡ first rows → rows ≡ []
+    go : (rows : Table) → None ≡ first rows → rows ≡ []
     go [] f = refl
     go (r ∷ rs) f = let z : ◌≡◌ {A = ℕ} 0 1 = cc in absurd (omega arith)
 
@@ -89,7 +91,7 @@ other_tag u (suc n) (x ∷ rows) h e =
     ]
 
 abbrev judged_as : Entry → ℕ → List ℕ → Ruling
-judged_as r today v = cond (permitted r.lengths (length v)) (rule_of r.rule today v) (Breaks ElementLength)
+judged_as r today v = cond (permitted r.lengths (length v)) (rule_of r.rule today v) (Err ElementLength)
 
 by_row : (today : ℕ) (v : List ℕ) (n : ℕ) (rows : Table) (i from : ℕ) {r : Entry} {rs : Table} → Distinct rows → drop n rows ≡ r ∷ rs → judged_by (find i from rows r.tag) today v ≡ judged_as r today v
 by_row today v zero [] i from d e = let z : ◌≡◌ {A = ℕ} 0 1 = cc in absurd (omega arith)
@@ -108,15 +110,15 @@ judged-some today r rs v vs at =
 
 -- ---- what is left, from the row i on
 
-module _ (kind : ℕ) (s from to : List ℕ) where
+module _ (kind : ℕ) (s : List ℕ) (rows : List Span) where
   abbrev vals : ℕ → Values
-  vals i = row_values from to s (length (drop i (table kind))) i
+  vals i = row_values rows s (length (drop i (table kind))) i
 
   -- to write
   unfoldable pub text_from : ℕ → List ℕ
   text_from i = encode (drop i (table kind)) (vals i)
 
-  pub text-all : text_from 0 ≡ encode (table kind) (row_values from to s (length (table kind)) 0)
+  pub text-all : text_from 0 ≡ encode (table kind) (row_values rows s (length (table kind)) 0)
   unfolding text_from
   text-all = refl
 
@@ -126,24 +128,24 @@ module _ (kind : ℕ) (s from to : List ℕ) where
 
   module _ (today : ℕ) where
     -- to judge, where the counts so far end at `at` and the elements so far take `size` bytes
-    unfoldable pub body_from : ℕ → ℕ → ℕ → Plan
+    unfoldable pub body_from : ℕ → ℕ → ℕ → Result ℕ Finding
     body_from i at size = plan_of (judged today (drop i (table kind)) (vals i) at) (size + length (encode (drop i (table kind)) (vals i)))
 
-    pub body-all : body_from 0 0 0 ≡ plan_of (judged today (table kind) (row_values from to s (length (table kind)) 0) 0) (length (encode (table kind) (row_values from to s (length (table kind)) 0)))
+    pub body_all : body_from 0 0 0 ≡ plan_of (judged today (table kind) (row_values rows s (length (table kind)) 0) 0) (length (encode (table kind) (row_values rows s (length (table kind)) 0)))
     unfolding body_from
-    body-all = rw zero-add
+    body_all = rw zero-add
 
-    pub body_end : (i at size : ℕ) → drop i (table kind) ≡ [] → Takes size ≡ body_from i at size
+    pub body_end : (i at size : ℕ) → drop i (table kind) ≡ [] → Ok size ≡ body_from i at size
     unfolding body_from
-    body_end i at size e = rw e (ap Takes (omega arith))
+    body_end i at size e = rw e (ap Ok (omega arith))
 
   module _ (i : ℕ) {tag : ℕ} {optional : Bool} (k : Next kind i tag optional) where
-    vals-next : vals i ≡ row_value from to s i ∷ vals (i + 1)
+    vals-next : vals i ≡ row_value rows s i ∷ vals (i + 1)
     unfolding row_values
     vals-next = rw (k.split, ← add-one i)
 
     -- a row that is absent
-    module _ (e : get_or to i 0 ≡ 0) where
+    module _ (e : row_value rows s i ≡ none) where
       vals-absent : vals i ≡ none ∷ vals (i + 1)
       vals-absent = vals-next ∙ rw e
 
@@ -152,21 +154,18 @@ module _ (kind : ℕ) (s from to : List ℕ) where
       text-absent = rw (vals-absent, k.split)
 
       module _ (today at size : ℕ) where
-        pub body-missing : optional ≡ false → Refuse (found MissingRow at (Of tag)) ≡ body_from today i at size
+        pub body_missing : optional ≡ false → Err (found MissingRow at (Some tag)) ≡ body_from today i at size
         unfolding body_from
-        body-missing o = rw (vals-absent, k.split, k.optional-is, o, k.tag_is)
+        body_missing o = rw (vals-absent, k.split, k.optional-is, o, k.tag_is)
 
-        pub body-absent : optional ≡ true → body_from today (i + 1) (at + 2) size ≡ body_from today i at size
+        pub body_absent : optional ≡ true → body_from today (i + 1) (at + 2) size ≡ body_from today i at size
         unfolding body_from
-        body-absent o = rw (vals-absent, k.split, k.optional-is, o)
+        body_absent o = rw (vals-absent, k.split, k.optional-is, o)
 
     -- one that is there
-    module _ (e : get_or to i 0 ≡ 0 → ⊥) where
-      abbrev v : List ℕ
-      v = part s (get_or from i 0) (get_or to i 0 - get_or from i 0)
-
+    module _ {v : List ℕ} (e : row_value rows s i ≡ some v) where
       vals-value : vals i ≡ some v ∷ vals (i + 1)
-      vals-value = vals-next ∙ rw (ne_eqb _ _ e)
+      vals-value = vals-next ∙ rw e
 
       pub text-value : text_from i ≡ (tag_bytes tag ++ length_bytes (length v) ++ v) ++ text_from (i + 1)
       unfolding text_from
@@ -178,15 +177,25 @@ module _ (kind : ℕ) (s from to : List ℕ) where
             let q : judged_by (row_of kind tag) today v ≡ judged_as k.row today v = rw (← k.tag_is) (by_row today v i (table kind) 0 0 (distinct kind) k.split) in
             rw (vals-value, k.split, q, ← k.tag_is) (judged-some today k.row (drop (i + 1) (table kind)) v (vals (i + 1)) at)
 
-        pub body-broken : {f : Fault} → Breaks f ≡ judged_by (row_of kind tag) today v → Refuse (found f at (Of tag)) ≡ body_from today i at size
+        pub body_broken : {f : Fault} → Err f ≡ judged_by (row_of kind tag) today v → Err (found f at (Some tag)) ≡ body_from today i at size
         unfolding body_from
-        body-broken b = rw (judged-value, ← b)
+        body_broken b = rw (judged-value, ← b)
 
-        pub body_kept : {m n : ℕ} → Kept ≡ judged_by (row_of kind tag) today v → n ≡ length v → m ≡ length (tag_bytes tag) + length (length_bytes n) + n
-            → body_from today (i + 1) (at + (2 + n)) (size + m) ≡ body_from today i at size
+        pub body_kept : {m : ℕ} → Ok tt ≡ judged_by (row_of kind tag) today v → m ≡ length (tag_bytes tag) + length (length_bytes (length v)) + length v
+            → body_from today (i + 1) (at + (2 + length v)) (size + m) ≡ body_from today i at size
         unfolding body_from text_from
-        body_kept {m} {n} b l g =
-            let p : at + (2 + n) ≡ at + 2 + length v = omega arith in
-            let g' : m ≡ length (tag_bytes tag) + length (length_bytes (length v)) + length v = rw l at g in
+        body_kept {m} b g =
+            let p : at + (2 + length v) ≡ at + 2 + length v = omega arith in
             let t : length (text_from i) ≡ length (tag_bytes tag) + length (length_bytes (length v)) + length v + length (text_from (i + 1)) = rw text-value (simp length-append (omega arith)) in
-            rw (judged-value, ← b, p) (ap (plan_of (judged today (drop (i + 1) (table kind)) (vals (i + 1)) (at + 2 + length v))) (omega (arith, t)))
+            rw (judged-value, ← b, p) (ap (plan_of (judged today (drop (i + 1) (table kind)) (vals (i + 1)) (at + 2 + length v))) (omega (arith, g, t)))
+
+-- a value that lies before an end is no longer than that
+pub value_small : (s : List ℕ) (rows : List Span) (i most : ℕ) {v : List ℕ} → Inside rows most → row_value rows s i ≡ some v → length v ≤ most
+value_small s rows i most {v} w e =
+    let x = get_or rows i absent in
+    elim (which (eqb x.to 0)) [
+      | inl z ↦ let n : ◌≡◌ {A = ℕ} 0 1 = cc (rw z at e) in absurd (omega arith)
+      | inr z ↦
+          let p : part s x.from (x.to - x.from) ≡ v = cc (rw z at e) in
+          rw (← p, length-take) (omega (arith, w.within i))
+    ]

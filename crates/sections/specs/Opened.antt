@@ -3,14 +3,10 @@ use Rattle.std.specs.Prelude.{ℕ, ◌+◌, ◌-◌, ◌*◌, cond, List, [], �
 use Rattle.std.proofs.Math.Option.{Option, none, some}
 use Rattle.kinds.specs.Tables.{Table, permitted}
 use Rattle.rules.specs.Rules.{rule_of}
-use Rattle.verdicts.specs.Verdicts.{found}
+use Rattle.verdicts.specs.Verdicts.{Outcome, Ruling, found}
 use Rattle.verdicts.specs.declared.Fault.TheVariants.{MissingRow, ElementLength}
-use Rattle.verdicts.specs.declared.Tag.TheVariants.{Of}
-use Rattle.verdicts.specs.declared.Ruling.{Ruling}
-use Rattle.verdicts.specs.declared.Ruling.TheVariants.{Kept, Breaks}
-use Rattle.verdicts.specs.declared.Outcome.{Outcome}
-use Rattle.verdicts.specs.declared.Outcome.TheVariants.{Fine, Broken}
 use Rattle.container.specs.Container.{Values}
+use Rattle.std.specs.Prelude.{Some, Ok, Err}
 
 -- ---- the sheet taken apart, row by row; none where it is cut short or has bytes left over. `proofs/` shows: exactly where it is the sheet of these values
 
@@ -31,13 +27,13 @@ opened (r ∷ rs) (a ∷ b ∷ s) =
 -- ---- the values judged, row by row, with the place of the row's count. 2026-02: "a written sheet's verdict names the row's tag"
 
 abbrev pub kept_or : Ruling → ℕ → ℕ → Outcome → Outcome
-kept_or Kept at tag later = later
-kept_or (Breaks f) at tag later = Broken (found f at (Of tag))
+kept_or (Ok _) at tag later = later
+kept_or (Err f) at tag later = Err (found f at (Some tag))
 
 abbrev pub judged : ℕ → Table → Values → ℕ → Outcome
-judged today [] vs at = Fine
-judged today (r ∷ rs) [] at = Fine
-judged today (r ∷ rs) (none ∷ vs) at = cond r.optional (judged today rs vs (at + 2)) (Broken (found MissingRow at (Of r.tag)))
+judged today [] vs at = Ok tt
+judged today (r ∷ rs) [] at = Ok tt
+judged today (r ∷ rs) (none ∷ vs) at = cond r.optional (judged today rs vs (at + 2)) (Err (found MissingRow at (Some r.tag)))
 judged today (r ∷ rs) (some v ∷ vs) at =
     cond (permitted r.lengths (length v)) (kept_or (rule_of r.rule today v) at r.tag (judged today rs vs (at + 2 + length v)))
-    (Broken (found ElementLength at (Of r.tag)))
+    (Err (found ElementLength at (Some r.tag)))

@@ -1,24 +1,19 @@
 -- What each pass over a sheet answers, as the code does it. Nothing of 01 is said here.
 use Rattle.std.specs.Prelude.{ℕ, ◌+◌, ◌*◌, ◌≤◌, ◌≡◌, cond, List, length}
+use Rattle.std.specs.Prelude.{Option as Maybe, Some, None, Result, Ok, Err}
 use Rattle.std.proofs.Math.Option.{Option, none, some}
-use Rattle.kinds.specs.Tables.{table, permits, is_kind}
+use Rattle.kinds.specs.Tables.{table, is_kind}
 use Rattle.kinds.specs.declared.Row.{Row}
-use Rattle.kinds.specs.declared.Row.TheVariants.{At, Missing}
-use Rattle.rules.specs.Rules.{rule_of}
-use Rattle.verdicts.specs.Verdicts.{outright}
-use Rattle.verdicts.specs.declared.Fault.TheVariants.{UnknownKind, NoDate, TornSheet, UnknownTag, ElementLength}
-use Rattle.verdicts.specs.declared.Ruling.{Ruling}
-use Rattle.verdicts.specs.declared.Ruling.TheVariants.{Breaks}
-use Rattle.verdicts.specs.declared.Outcome.{Outcome}
-use Rattle.verdicts.specs.declared.Outcome.TheVariants.{Fine, Broken}
+use Rattle.rules.specs.Rules.{fitting}
+use Rattle.verdicts.specs.Verdicts.{Outcome, Ruling, outright}
+use Rattle.verdicts.specs.declared.Fault.TheVariants.{UnknownKind, NoDate, TornSheet, UnknownTag}
 use Rattle.container.specs.Container.{Values, encode}
-use Rattle.container.specs.Map.{Inside, row_values}
+use Rattle.verdicts.specs.declared.Finding.{Finding}
+use Rattle.container.specs.Spans.{Inside}
+use Rattle.container.specs.declared.rows.Span.{Span}
+use Rattle.container.specs.Map.{row_values}
 use Rattle.sections.specs.Opened.{opened, judged}
 use Rattle.dates.specs.Date.{is_date}
-use Rattle.sections.specs.declared.Sheet.{Sheet}
-use Rattle.sections.specs.declared.Places.{Places}
-use Rattle.sections.specs.declared.Plan.{Plan}
-use Rattle.sections.specs.declared.Plan.TheVariants.{Refuse, Takes}
 
 -- ---- the first pass: where the values lie
 
@@ -27,45 +22,38 @@ abbrev pub furthest : ℕ
 furthest = 15 * 65536
 
 -- the values that lie so
-abbrev pub lying : ℕ → List ℕ → List ℕ → List ℕ → Values
-lying kind from to s = row_values from to s (length (table kind)) 0
+abbrev pub lying : ℕ → List Span → List ℕ → Values
+lying kind rows s = row_values rows s (length (table kind)) 0
 
--- what was found is what the sheet opens to
-pub record Apart (kind : ℕ) (s : List ℕ) (x : Places) : Type 0 where
-  pub opens : opened (table kind) s ≡ cond x.whole (some (lying kind x.from x.to s)) none
-  pub inside : Inside x.from x.to (length s)
-  pub near : Inside x.from x.to furthest
+-- what was found is what the sheet opens to; or it is torn
+abbrev pub Apart : ℕ → List ℕ → Maybe (List Span) → Type 0
+Apart kind s None = opened (table kind) s ≡ none
+Apart kind s (Some rows) = (opened (table kind) s ≡ some (lying kind rows s)) × Inside rows (length s) × Inside rows furthest
 
 -- ---- the second pass: the first finding, or how many bytes the elements take
 
 -- a value judged by what the table says of its tag: 16, then its rule
-abbrev pub judged_by : Row → ℕ → List ℕ → Ruling
-judged_by Missing today v = Breaks UnknownTag
-judged_by (At i from least most empty rule) today v = cond (permits least most empty (length v)) (rule_of rule today v) (Breaks ElementLength)
+abbrev pub judged_by : Maybe Row → ℕ → List ℕ → Ruling
+judged_by None today v = Err UnknownTag
+judged_by (Some r) today v = fitting r today v
 
-abbrev pub plan_of : Outcome → ℕ → Plan
-plan_of Fine n = Takes n
-plan_of (Broken f) n = Refuse f
+abbrev pub plan_of : Outcome → ℕ → Result ℕ Finding
+plan_of (Ok _) n = Ok n
+plan_of (Err f) n = Err f
 
 -- of each row a value, a tag of two bytes and a length of three
-abbrev pub Small : Plan → Type 0
-Small (Refuse f) = Unit {0}
-Small (Takes n) = n ≤ 16 * (furthest + 5)
+abbrev pub Small : Result ℕ Finding → Type 0
+Small (Err f) = Unit {0}
+Small (Ok n) = n ≤ 16 * (furthest + 5)
 
 -- ---- the whole: 1, 2, 5, then the second pass
 
-abbrev pub opened_plan : ℕ → ℕ → Option Values → Plan
-opened_plan kind today none = Refuse (outright TornSheet)
+abbrev pub opened_plan : ℕ → ℕ → Option Values → Result ℕ Finding
+opened_plan kind today none = Err (outright TornSheet)
 opened_plan kind today (some vs) = plan_of (judged today (table kind) vs 0) (length (encode (table kind) vs))
 
-unfoldable pub plan_for : ℕ → ℕ → List ℕ → Plan
+unfoldable pub plan_for : ℕ → ℕ → List ℕ → Result ℕ Finding
 plan_for kind today s =
     cond (is_kind kind)
-    (cond (is_date today) (opened_plan kind today (opened (table kind) s)) (Refuse (outright NoDate)))
-    (Refuse (outright UnknownKind))
-
--- where nothing is refused the values lie so, and their elements take so many bytes
-pub record Lies (kind : ℕ) (s : List ℕ) (x : Sheet) : Type 0 where
-  pub opens : (n : ℕ) → x.plan ≡ Takes n → (opened (table kind) s ≡ some (lying kind x.from x.to s)) × (n ≡ length (encode (table kind) (lying kind x.from x.to s)))
-  pub small : Small x.plan
-  pub inside : Inside x.from x.to (length s)
+    (cond (is_date today) (opened_plan kind today (opened (table kind) s)) (Err (outright NoDate)))
+    (Err (outright UnknownKind))

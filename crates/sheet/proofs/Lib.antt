@@ -1,3 +1,4 @@
 pub mod Sheets
 pub mod Examples
 pub mod Bound
+pub mod Calls

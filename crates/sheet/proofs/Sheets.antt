@@ -1,14 +1,15 @@
--- Sheets: how long they are, what they say of a map, and that the values of a container that conforms have one. Assumes nothing.
+-- Sheets: how long they are, what they say of rows, and that the values of a container that conforms have one. Assumes nothing.
 use Prim.Native.Nat.{ℕ, zero, suc, ◌+◌, ◌-◌, ◌≤◌, ◌<◌}
 use mathlib.Core.Path.{◌≡◌, refl, ap, ◌∙◌}
 use mathlib.Core.Option.{Option, none, some}
 use mathlib.Core.List.{List, [], ◌∷◌, ◌++◌}
 use native.Mathlib.Omega.{arith}
-use borrow.Author.Tests.{ne_eqb}
-use lib.ListN.{length, get_or, length-append}
+use lib.Dec.{eqb}
+use mathlib.Core.Logic.{inl, inr}
+use Rattle.laws.proofs.Cases.{which}
+use lib.ListN.{length, drop, get_or, length-append, length-take, length-drop}
 use Rattle.laws.specs.Bytes.{Bytes}
 use Rattle.laws.specs.Layout.{part}
-use Rattle.laws.proofs.Layouts.{part-long}
 use Rattle.laws.proofs.Bases.{below-append}
 use Rattle.lengths.specs.Length.{length_bytes}
 use Rattle.kinds.specs.Tables.{Table, table}
@@ -16,7 +17,9 @@ use Rattle.kinds.proofs.Every.{some-rows}
 use Rattle.container.specs.Container.{Values, encode, Allowed, Conforms}
 use Rattle.container.proofs.Exact.{element-length}
 use Rattle.container.proofs.Forms.{never-longer, AllBytes, conforming-bytes}
+use Rattle.container.specs.Spans.{absent, shown}
 use Rattle.container.specs.Map.{row_value, row_values}
+use Rattle.container.specs.declared.rows.Span.{Span}
 use Rattle.container.proofs.Lying.{next_row}
 use Rattle.sheet.specs.Sheet.{count, section, sheet_of, Sheeted, IsSheet}
 
@@ -39,37 +42,50 @@ pub some-sheet : (o : Option (List ℕ)) (vs : Values) → 0 < length (sheet_of 
 some-sheet none vs = omega (arith, sheet-length none vs)
 some-sheet (some v) vs = omega (arith, sheet-length (some v) vs)
 
--- ---- the sheet of what a map shows, by the row that is next
+-- ---- the sheet of what rows show, by the row that is next
 
-module _ (starts ends c : List ℕ) (n i : ℕ) (h : i < n) where
+module _ (rows : List Span) (c : List ℕ) (n i : ℕ) (h : i < n) where
   abbrev rest : Values
-  rest = row_values starts ends c (n - (i + 1)) (i + 1)
+  rest = row_values rows c (n - (i + 1)) (i + 1)
 
-  pub absent-next : get_or ends i 0 ≡ 0 → sheet_of (row_values starts ends c (n - i) i) ≡ count 0 ++ sheet_of rest
+  pub absent_next : row_value rows c i ≡ none → sheet_of (row_values rows c (n - i) i) ≡ count 0 ++ sheet_of rest
   unfolding sheet_of
-  absent-next e = rw (next_row starts ends c n i h, e)
+  absent_next e = rw (next_row rows c n i h, e)
 
-  pub value-next : (get_or ends i 0 ≡ 0 → ⊥) → sheet_of (row_values starts ends c (n - i) i) ≡ section (some (part c (get_or starts i 0) (get_or ends i 0 - get_or starts i 0))) ++ sheet_of rest
+  pub value_next : {v : List ℕ} → row_value rows c i ≡ some v → sheet_of (row_values rows c (n - i) i) ≡ section (some v) ++ sheet_of rest
   unfolding sheet_of
-  value-next e = rw (next_row starts ends c n i h, ne_eqb _ _ e)
+  value_next e = rw (next_row rows c n i h, e)
 
-  pub value-length : (get_or ends i 0 ≡ 0 → ⊥) → get_or starts i 0 ≤ get_or ends i 0 → get_or ends i 0 ≤ length c
-      → length (sheet_of (row_values starts ends c (n - i) i)) ≡ 2 + (get_or ends i 0 - get_or starts i 0) + length (sheet_of rest)
-  value-length e o w =
-      let v = part c (get_or starts i 0) (get_or ends i 0 - get_or starts i 0) in
-      let l : length v ≡ get_or ends i 0 - get_or starts i 0 = part-long c (get_or starts i 0) (get_or ends i 0 - get_or starts i 0) (omega arith) in
-      omega (arith, ap length (value-next e), length-append (section (some v)) (sheet_of rest), section-length (some v), l)
+  pub absent_length : row_value rows c i ≡ none → length (sheet_of (row_values rows c (n - i) i)) ≡ 2 + length (sheet_of rest)
+  absent_length e = ap length (absent_next e) ∙ length-append (count 0) (sheet_of rest)
+
+  pub value_length : {v : List ℕ} → row_value rows c i ≡ some v → length (sheet_of (row_values rows c (n - i) i)) ≡ 2 + length v + length (sheet_of rest)
+  value_length {v} e = ap length (value_next e) ∙ length-append (section (some v)) (sheet_of rest) ∙ ap (λ (k : ℕ). k + length (sheet_of rest)) (section-length (some v))
+
+-- a value that is shown is a part of the bytes
+pub value_within : (rows : List Span) (c : List ℕ) (i : ℕ) {v : List ℕ} → row_value rows c i ≡ some v → length v ≤ length c
+value_within rows c i {v} e = go (get_or rows i absent) e
+  where
+    go : (s : Span) → shown c s ≡ some v → length v ≤ length c
+    go s e =
+        elim (which (eqb s.to 0)) [
+          | inl q ↦ let z : none ≡ some v = rw q at e in let z : ◌≡◌ {A = ℕ} 0 1 = cc in absurd (omega arith)
+          | inr q ↦
+              let z : some (part c s.from (s.to - s.from)) ≡ some v = rw q at e in
+              let w : part c s.from (s.to - s.from) ≡ v = cc in
+              rw (← w) (omega (arith, length-take (s.to - s.from) (drop s.from c), length-drop s.from c))
+        ]
 
 -- no room of no bytes takes the sheet of a row or more
-pub some-shown : (starts ends c : List ℕ) (n : ℕ) → 0 < n → 0 < length (sheet_of (row_values starts ends c n 0))
+pub some_shown : (rows : List Span) (c : List ℕ) (n : ℕ) → 0 < n → 0 < length (sheet_of (row_values rows c n 0))
 unfolding row_values
-some-shown starts ends c zero h = absurd (omega arith)
-some-shown starts ends c (suc n) h = some-sheet (row_value starts ends c 0) (row_values starts ends c n 1)
+some_shown rows c zero h = absurd (omega arith)
+some_shown rows c (suc n) h = some-sheet (row_value rows c 0) (row_values rows c n 1)
 
 -- no row is left, or all are
-pub none_left : (starts ends c : List ℕ) (n i : ℕ) → n ≤ i → sheet_of (row_values starts ends c (n - i) i) ≡ []
+pub none_left : (rows : List Span) (c : List ℕ) (n i : ℕ) → n ≤ i → sheet_of (row_values rows c (n - i) i) ≡ []
 unfolding sheet_of row_values
-none_left starts ends c n i h = let z : n - i ≡ 0 = omega arith in rw z
+none_left rows c n i h = let z : n - i ≡ 0 = omega arith in rw z
 
 -- ---- the values of a container that conforms
 

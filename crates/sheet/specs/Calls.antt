@@ -4,11 +4,11 @@ use Rattle.laws.specs.Room.{zeros, filled}
 use Rattle.verdicts.specs.Verdicts.{number_of, verdict_of}
 use Rattle.verdicts.specs.declared.Fault.TheVariants.{SmallRoom}
 use Rattle.verdicts.specs.declared.Finding.{Finding}
-use Rattle.verdicts.specs.declared.Outcome.TheVariants.{Fine, Broken}
 use Rattle.container.specs.Container.{Values, Conforms}
 use Rattle.container.specs.InOrder.{Named}
 use Rattle.sheet.specs.Sheet.{sheet_of}
 use Rattle.sheet.specs.declared.Checked.{Checked}
+use Rattle.std.specs.Prelude.{Ok, Err}
 
 -- a text t for a room that was `before` and is left as `after`: it does not fit, 3, and nothing of it is there; or it does, 0, its length, and it is there
 pub data Given (t before after : List ℕ) (room size : ℕ) : Type 0 where
@@ -18,7 +18,7 @@ pub data Given (t before after : List ℕ) (room size : ℕ) : Type 0 where
 -- what a check says of the bytes c: the first broken rule, and "3 for room is a field beside a verdict of 0 only", so there is none beside it; or that they
 -- conform, and the sheet of their values goes into the room
 pub data Says (kind today : ℕ) (c before after : List ℕ) (r : Checked) : Type 0 where
-  breaks : (f : Finding) → Named kind today c f → r ≡ record { verdict = verdict_of (Broken f); room = 0; length = 0 } → after ≡ zeros (length before)
+  breaks : (f : Finding) → Named kind today c f → r ≡ record { verdict = verdict_of (Err f); room = 0; length = 0 } → after ≡ zeros (length before)
       → Says kind today c before after r
-  conforms : (vs : Values) → Conforms kind today vs c → r.verdict ≡ verdict_of Fine → Given (sheet_of vs) before after r.room r.length
+  conforms : (vs : Values) → Conforms kind today vs c → r.verdict ≡ verdict_of (Ok tt) → Given (sheet_of vs) before after r.room r.length
       → Says kind today c before after r

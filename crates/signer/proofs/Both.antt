@@ -2,7 +2,7 @@
 use Prim.Native.Nat.{ℕ, ◌+◌, ◌-◌, ◌≤◌}
 use mathlib.Core.Path.{◌≡◌, refl, sym, ap, ◌∙◌}
 use mathlib.Core.Logic.{inl, inr}
-use mathlib.Core.Bool.{false}
+use mathlib.Core.Bool.{false, false≢true}
 use mathlib.Core.Option.{none, some}
 use mathlib.Core.List.{List, [], ◌∷◌}
 use native.Mathlib.Omega.{arith}
@@ -14,12 +14,10 @@ use Rattle.laws.specs.Layout.{field, part}
 use Rattle.laws.proofs.Bases.{below-take, below-drop}
 use Rattle.laws.proofs.Cases.{no-some}
 use Rattle.laws.proofs.Layouts.{part-part}
-use Rattle.verdicts.specs.Verdicts.{outright, verdict_of}
+use Rattle.verdicts.specs.Verdicts.{outright}
 use Rattle.verdicts.specs.declared.Fault.TheVariants.{UnknownKind, FascnDiffer, BiometricBlock, ChuidBlock, NeitherHolds}
 use Rattle.verdicts.specs.declared.Finding.{Finding}
-use Rattle.verdicts.specs.declared.Outcome.TheVariants.{Fine, Broken}
 use Rattle.kinds.specs.Tables.{Table, table, row_at}
-use Rattle.kinds.specs.declared.Slot.TheVariants.{Holds}
 use Rattle.rules.specs.Rules.{Keeps}
 use Rattle.cbeff.specs.Header as header
 use Rattle.cbeff.proofs.Exact.{data-inside}
@@ -27,22 +25,27 @@ use Rattle.der.specs.Der.{Item, der_bytes}
 use Rattle.blocks.specs.Block.{SignedData, place}
 use Rattle.blocks.proofs.Exact.{stands}
 use Rattle.blocks.proofs.Items.{some_bytes}
-use Rattle.container.specs.Container.{Values, Allowed, largest}
+use Rattle.container.specs.Container.{Values, Allowed}
 use Rattle.container.specs.Reading.{located}
 use Rattle.container.specs.Map.{map_of}
-use Rattle.container.specs.declared.Map.{Map}
-use Rattle.container.proofs.Lying.{read-broken, fine-size}
+use Rattle.container.specs.Spans.{absent}
+use Rattle.container.specs.declared.rows.Span.{Span}
+use Rattle.container.proofs.Lying.{read-broken}
 use Rattle.container.proofs.Promise.{named}
 use Rattle.signer.specs.Signer.{Chuid, IsBiometric, Biometric, Signed, refusal, InBlocks, own_none, own_holds, block_none, neither, block_holds, other, same, Says, no_biometric, chuid_breaks, biometric_breaks, both_conform}
 use Rattle.signer.specs.Signer as spec
 use Rattle.signer.specs.Locating as told
-use Rattle.signer.specs.Locating.{nowhere, Tells, InValue, Second, breaks, Locates}
-use Rattle.signer.specs.declared.Located.{Located}
-use Rattle.signer.proofs.Elements.{Row, row, within}
+use Rattle.signer.specs.Locating.{is_biometric, in_numbers, of_neither, Tells, InValue, Second, breaks, Locates}
+use Rattle.signer.specs.declared.Holder.TheVariants.{Chuid as InChuid, Biometric as InBiometric}
+use Rattle.signer.specs.declared.Certificate.{Certificate}
+use Rattle.signer.specs.declared.Refusal.{Refusal}
+use Rattle.signer.proofs.Ways.{kind-exact}
+use Rattle.signer.proofs.Elements.{Row, row, taken, within}
+use Rattle.std.specs.Prelude.{Some, Result, Ok, Err}
 
 -- ---- the biometric
 
-pub bc-row : (kind : ℕ) → IsBiometric kind → row_at kind 0 ≡ Holds 0xBC false
+pub bc-row : (kind : ℕ) → IsBiometric kind → row_at kind 0 ≡ Some (record { tag = 0xBC; optional = false })
 bc-row kind (inl e) = rw e
 bc-row kind (inr (inl e)) = rw e
 bc-row kind (inr (inr e)) = rw e
@@ -65,31 +68,39 @@ made_of kind today (inl e) v b k = (data-inside header.fingers v b (rw e at k)).
 made_of kind today (inr (inl e)) v b k = (data-inside header.face v b (rw e at k)).1
 made_of kind today (inr (inr e)) v b k = (data-inside header.iris v b (rw e at k)).1
 
-module _ (kind today : ℕ) (k : IsBiometric kind) (c : List ℕ) (b : Bytes c) {m : Map} (e : m ≡ map_of (located kind today c)) (fascn block : List ℕ) (at : ℕ) where
-  pub out-second : {f : Finding} → m.outcome ≡ Broken f → Tells (Second kind today c fascn block at) (nowhere 2 (verdict_of (Broken f)))
-  out-second {f} o = record { signed = refusal 2 f; says = breaks f (named kind today c b f (read-broken kind today c e o)) refl; is = refl }
+-- a row's value, as the code takes it
+abbrev pub cut : List ℕ → List Span → ℕ → List ℕ
+cut c rows i = part c (get_or rows i absent).from ((get_or rows i absent).to - (get_or rows i absent).from)
 
-  module _ (o : m.outcome ≡ Fine) where
-    pub bc : Row kind today c m 0 0xBC
-    bc = row kind today c b e o 0 0xBC (bc-row kind k)
+module _ (kind today : ℕ) (k : IsBiometric kind) (c : List ℕ) (b : Bytes c) where
+  pub out_second : (fascn block : List ℕ) (at : ℕ) {f : Finding} → Err f ≡ map_of (located kind today c)
+      → Tells (Second kind today c fascn block at) (Err (record { of = Some InBiometric; finding = f }))
+  out_second fascn block at {f} o = record { signed = refusal 2 f; says = breaks f (named kind today c b f (read-broken kind today c o)) refl; is = refl }
+
+  module _ {rows : List Span} (o : Ok rows ≡ map_of (located kind today c)) where
+    bc : Row kind today c rows 0 0xBC
+    bc = row kind today c b o 0 0xBC (bc-row kind k)
 
     bytes : Bytes bc.value
     bytes = rw bc.bytes at (below-take 256 (length bc.value) (drop bc.at c) (below-drop 256 bc.at c b))
 
-    pub sized : 88 + field bc.value 2 4 + field bc.value 6 2 ≡ length bc.value
+    sized : 88 + field bc.value 2 4 + field bc.value 6 2 ≡ length bc.value
     sized =
         let x = bc.element in
         made_of kind today k bc.value bytes (first-keeps today (table kind) x.values x.conforms.allowed bc.value (rw bc.row_is at x.value_is))
 
-    pub small : bc.at + length bc.value ≤ largest
-    small = omega (arith, bc.inside, fine-size kind today c e o)
+    pub long : 88 + field (cut c rows 0) 2 4 ≤ length (cut c rows 0)
+    long = rw (taken bc) (omega (arith, sized))
 
-    pub out-value : (r : Located) → Tells (InValue fascn block at bc.value bc.at) r → Tells (Second kind today c fascn block at) r
-    out-value r t = record {
-      signed = t.signed;
-      says = told.conforms _ _ _ (record { value = bc.value; start = bc.at; value_is = bc.element; fascn_is = refl; block_is = refl; at_is = refl }) t.says;
-      is = t.is;
-    }
+    pub out_value : (fascn block : List ℕ) (at : ℕ) {r : Result Certificate Refusal} → Tells (InValue fascn block at (cut c rows 0) (get_or rows 0 absent).from) r
+        → Tells (Second kind today c fascn block at) r
+    out_value fascn block at {r} u =
+        let t : Tells (InValue fascn block at bc.value bc.at) r = rw (taken bc, bc.span_is) at u in
+        record {
+          signed = t.signed;
+          says = told.conforms _ _ _ (record { value = bc.value; start = bc.at; value_is = bc.element; fascn_is = refl; block_is = refl; at_is = refl }) t.says;
+          is = t.is;
+        }
 
 -- ---- a certificate stands where it is said to
 
@@ -145,27 +156,29 @@ module _ (chuid biometric : List ℕ) where
 
     -- ---- the whole answer
 
-    pub out : {kind today : ℕ} (r : Located) (a : Signed) → Says kind today chuid biometric a → r ≡ told.located a → Locates kind today chuid biometric r
+    out : {kind today : ℕ} (r : Result Certificate Refusal) (a : Signed) → Says kind today chuid biometric a → in_numbers r ≡ told.located a → Locates kind today chuid biometric r
     out r a s e =
         let (i, f) = lies s in
-        rw e (record { signed = a; says = s; is = refl; inside = i; bytes_are = rw add-sub_cancel_left f })
+        record { signed = a; says = s; is = e; inside = rw e i; bytes_are = rw (e, add-sub_cancel_left) f }
 
-    module _ (kind today : ℕ) (k : IsBiometric kind) {m : Map} (e : m ≡ map_of (located 2 today chuid)) where
-      pub out_first : {f : Finding} → m.outcome ≡ Broken f → Locates kind today chuid biometric (nowhere 1 (verdict_of (Broken f)))
-      out_first {f} o = out _ (refusal 1 f) (chuid_breaks k f (named 2 today chuid b₁ f (read-broken 2 today chuid e o)) refl) refl
+    pub out_kind : (kind today : ℕ) → is_biometric kind ≡ false → Locates kind today chuid biometric (Err (of_neither UnknownKind))
+    out_kind kind today e = out _ (refusal 0 (outright UnknownKind)) (no_biometric (λ k. false≢true (sym e ∙ (kind-exact kind).1 k)) refl) refl
 
-      module _ (o : m.outcome ≡ Fine) where
-        pub fascn : Row 2 today chuid m 1 0x30
-        fascn = row 2 today chuid b₁ e o 1 0x30 refl
+    module _ (kind today : ℕ) (k : IsBiometric kind) where
+      pub out_first : {f : Finding} → Err f ≡ map_of (located 2 today chuid) → Locates kind today chuid biometric (Err (record { of = Some InChuid; finding = f }))
+      out_first {f} o = out _ (refusal 1 f) (chuid_breaks k f (named 2 today chuid b₁ f (read-broken 2 today chuid o)) refl) refl
 
-        pub block : Row 2 today chuid m 7 0x3E
-        block = row 2 today chuid b₁ e o 7 0x3E refl
+      module _ {rows : List Span} (o : Ok rows ≡ map_of (located 2 today chuid)) where
+        fascn : Row 2 today chuid rows 1 0x30
+        fascn = row 2 today chuid b₁ o 1 0x30 refl
 
-        pub block-small : block.at + length block.value ≤ largest
-        block-small = omega (arith, block.inside, fine-size 2 today chuid e o)
+        block : Row 2 today chuid rows 7 0x3E
+        block = row 2 today chuid b₁ o 7 0x3E refl
 
-        pub out_both : (r : Located) → Tells (Second kind today biometric fascn.value block.value block.at) r → Locates kind today chuid biometric r
-        out_both r t = out r t.signed (judged t.says) t.is
+        pub out_both : {r : Result Certificate Refusal} → Tells (Second kind today biometric (cut chuid rows 1) (cut chuid rows 7) (get_or rows 7 absent).from) r → Locates kind today chuid biometric r
+        out_both {r} u =
+            let t : Tells (Second kind today biometric fascn.value block.value block.at) r = rw (taken fascn, taken block, block.span_is) at u in
+            out r t.signed (judged t.says) t.is
           where
             judged : {a : Signed} → Second kind today biometric fascn.value block.value block.at a → Says kind today chuid biometric a
             judged (breaks f n q) = biometric_breaks k fascn.element.values fascn.element.conforms f n q

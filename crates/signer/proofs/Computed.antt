@@ -10,15 +10,12 @@ use Rattle.laws.specs.Layout.{field, part}
 use Rattle.laws.specs.Tests.{same}
 use Rattle.laws.proofs.Bases.{below-take, below-drop}
 use Rattle.laws.proofs.Cases.{test, same-exact}
-use Rattle.verdicts.specs.Verdicts.{outright, verdict_of}
+use Rattle.verdicts.specs.Verdicts.{Outcome, outright, verdict_of}
 use Rattle.verdicts.specs.declared.Fault.TheVariants.{UnknownKind, FascnDiffer, BiometricBlock, ChuidBlock, NeitherHolds}
-use Rattle.verdicts.specs.declared.Outcome.{Outcome}
-use Rattle.verdicts.specs.declared.Outcome.TheVariants.{Fine, Broken}
 use Rattle.der.specs.Der.{Item, der_bytes}
 use Rattle.blocks.specs.Block.{place}
 use Rattle.blocks.specs.Reading.{Reads}
-use Rattle.blocks.specs.declared.Block.{Block}
-use Rattle.blocks.specs.declared.Block.TheVariants.{Bad, Empty, Holds}
+use Rattle.blocks.specs.Reading.{Block}
 use Rattle.blocks.proofs.Exact.{stands}
 use Rattle.blocks.proofs.Computed.{block_of, reads}
 use Rattle.container.specs.Container.{Values, Conforms}
@@ -31,33 +28,34 @@ use Rattle.signer.specs.Locating.{is_biometric}
 use Rattle.signer.proofs.Elements.{element-of, within}
 use Rattle.signer.proofs.Ways.{kind-exact, told}
 use Rattle.signer.proofs.Both.{bc-row}
+use Rattle.std.specs.Prelude.{Some, None, Ok, Err}
 
 -- ---- the two blocks
 
 abbrev held : ℕ → ℕ → List ℕ → ℕ → ℕ → Signed
-held which at v from to = record { verdict = verdict_of Fine; which = which; offset = at + from; bytes = take (to - from) (drop from v) }
+held which at v from to = record { verdict = verdict_of (Ok tt); which = which; offset = at + from; bytes = take (to - from) (drop from v) }
 
 abbrev in_blocks : Block → List ℕ → ℕ → Block → List ℕ → ℕ → Signed
-in_blocks Bad own own_at y block at = refusal 0 (outright BiometricBlock)
-in_blocks (Holds from to) own own_at y block at = held 2 own_at own from to
-in_blocks Empty own own_at Bad block at = refusal 0 (outright ChuidBlock)
-in_blocks Empty own own_at Empty block at = refusal 0 (outright NeitherHolds)
-in_blocks Empty own own_at (Holds from to) block at = held 1 at block from to
+in_blocks (Err _) own own_at y block at = refusal 0 (outright BiometricBlock)
+in_blocks (Ok (Some p)) own own_at y block at = held 2 own_at own p.from p.to
+in_blocks (Ok None) own own_at (Err _) block at = refusal 0 (outright ChuidBlock)
+in_blocks (Ok None) own own_at (Ok None) block at = refusal 0 (outright NeitherHolds)
+in_blocks (Ok None) own own_at (Ok (Some p)) block at = held 1 at block p.from p.to
 
 held-is : (which at : ℕ) (v : List ℕ) (from to p : ℕ) (c : Item) → from ≡ p → to ≡ p + length (der_bytes c) → take (length (der_bytes c)) (drop p v) ≡ der_bytes c
     → held which at v from to ≡ found which (at + p) c
 held-is which at v from to p c e f s = rw (e, f, add-sub_cancel_left, s)
 
 in_blocks_lem : (own : List ℕ) (own_at : ℕ) (block : List ℕ) (at : ℕ) (x y : Block) → Reads own x → Reads block y → InBlocks own own_at block at (in_blocks x own own_at y block at)
-in_blocks_lem own own_at block at Bad y r q = own_none (told own Bad r) refl
-in_blocks_lem own own_at block at (Holds from to) y r q =
-    let (s, c, k, e, f) = told own (Holds from to) r in
-    own_holds s c k (held-is 2 own_at own from to (place s) c e f (stands own s c k.0 k.1).1)
-in_blocks_lem own own_at block at Empty Bad r q = block_none (told own Empty r) (told block Bad q) refl
-in_blocks_lem own own_at block at Empty Empty r q = neither (told own Empty r) (told block Empty q) refl
-in_blocks_lem own own_at block at Empty (Holds from to) r q =
-    let (s, c, k, e, f) = told block (Holds from to) q in
-    block_holds (told own Empty r) s c k (held-is 1 at block from to (place s) c e f (stands block s c k.0 k.1).1)
+in_blocks_lem own own_at block at (Err u) y r q = own_none (told own (Err u) r) refl
+in_blocks_lem own own_at block at (Ok (Some p)) y r q =
+    let (s, c, k, e, f) = told own (Ok (Some p)) r in
+    own_holds s c k (held-is 2 own_at own p.from p.to (place s) c e f (stands own s c k.0 k.1).1)
+in_blocks_lem own own_at block at (Ok None) (Err u) r q = block_none (told own (Ok None) r) (told block (Err u) q) refl
+in_blocks_lem own own_at block at (Ok None) (Ok None) r q = neither (told own (Ok None) r) (told block (Ok None) q) refl
+in_blocks_lem own own_at block at (Ok None) (Ok (Some p)) r q =
+    let (s, c, k, e, f) = told block (Ok (Some p)) q in
+    block_holds (told own (Ok None) r) s c k (held-is 1 at block p.from p.to (place s) c e f (stands block s c k.0 k.1).1)
 
 -- ---- the two containers
 
@@ -86,12 +84,12 @@ module _ (kind today : ℕ) (chuid biometric : List ℕ) where
       (refusal 0 (outright FascnDiffer))
 
   abbrev by_second : Outcome → Signed
-  by_second (Broken f) = refusal 2 f
-  by_second Fine = compared
+  by_second (Err f) = refusal 2 f
+  by_second (Ok _) = compared
 
   abbrev by_first : Outcome → Signed
-  by_first (Broken f) = refusal 1 f
-  by_first Fine = by_second (outcome kind today biometric)
+  by_first (Err f) = refusal 1 f
+  by_first (Ok _) = by_second (outcome kind today biometric)
 
   unfoldable pub signed_of : Signed
   signed_of = cond (is_biometric kind) (by_first (outcome 2 today chuid)) (refusal 0 (outright UnknownKind))

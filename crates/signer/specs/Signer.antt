@@ -6,15 +6,14 @@ use Rattle.laws.specs.Layout.{field, part}
 use Rattle.verdicts.specs.Verdicts.{tag_number, outright, verdict_of}
 use Rattle.verdicts.specs.declared.Fault.TheVariants.{UnknownKind, FascnDiffer, BiometricBlock, ChuidBlock, NeitherHolds}
 use Rattle.verdicts.specs.declared.Finding.{Finding}
-use Rattle.verdicts.specs.declared.Outcome.TheVariants.{Fine, Broken}
 use Rattle.verdicts.specs.declared.Verdict.{Verdict}
 use Rattle.kinds.specs.Tables.{row_at}
-use Rattle.kinds.specs.declared.Slot.TheVariants.{Holds}
 use Rattle.der.specs.Der.{Item, der_bytes}
 use Rattle.blocks.specs.Block.{SignedData, IsBlock, certificate, place}
 use Rattle.container.specs.Container.{Values, Conforms}
 use Rattle.container.specs.InOrder.{Named}
 use Rattle.views.specs.Views.{place_of}
+use Rattle.std.specs.Prelude.{Some, Ok, Err}
 
 -- ---- what the two containers carry
 
@@ -24,7 +23,7 @@ pub record Element (kind today : ℕ) (c : List ℕ) (t : ℕ) (v : List ℕ) (a
   pub conforms : Conforms kind today values c
   pub row : ℕ
   pub optional : Bool
-  pub row_is : row_at kind row ≡ Holds t optional
+  pub row_is : row_at kind row ≡ Some (record { tag = t; optional = optional })
   pub value_is : get_or values row none ≡ some v
   pub place_is : at ≡ place_of kind values conforms.forms row t
 
@@ -58,11 +57,11 @@ pub record Signed : Type 0 where
 
 -- "a refusal returns an empty part; one from a check says which container, others say neither": 1 the CHUID, 2 the biometric, 0 neither
 abbrev pub refusal : ℕ → Finding → Signed
-refusal which f = record { verdict = verdict_of (Broken f); which = which; offset = 0; bytes = [] }
+refusal which f = record { verdict = verdict_of (Err f); which = which; offset = 0; bytes = [] }
 
 -- "hand back the certificate as a part of the one it lies in, and say which", "tag and length included"
 abbrev pub found : ℕ → ℕ → Item → Signed
-found which at c = record { verdict = verdict_of Fine; which = which; offset = at; bytes = der_bytes c }
+found which at c = record { verdict = verdict_of (Ok tt); which = which; offset = at; bytes = der_bytes c }
 
 -- ---- the two blocks
 

@@ -1,13 +1,13 @@
 -- How long the lines are, what a container that is too long is judged by, and a law for each way out of the code. Assumes nothing.
-use Prim.Native.Nat.{ℕ, ◌+◌, ◌-◌, ◌^◌, ◌<◌, ◌≤◌}
-use mathlib.Core.Path.{◌≡◌, refl, sym, ap, ◌∙◌}
+use Prim.Native.Nat.{ℕ, ◌+◌, ◌^◌, ◌<◌, ◌≤◌}
+use mathlib.Core.Path.{◌≡◌, sym, ap, ◌∙◌}
 use mathlib.Core.Logic.{inl, inr}
 use mathlib.Core.Bool.{Bool, true, false, not, ◌&&◌}
-use mathlib.Core.List.{List, ◌++◌, append-nil}
+use mathlib.Core.List.{List, ◌++◌}
 use native.Mathlib.Omega.{arith}
 use lib.Dec.{eqb, ltb}
 use lib.ListN.{length, length-append, length-replicate}
-use borrow.Author.Tests.{eq-eqb, ne_eqb, eqb-true, lt-ltb, le-ltb, ltb-true, ltb-false, lt-leb}
+use borrow.Author.Tests.{ne_eqb, eqb-true, lt-ltb, le-ltb, ltb-true, ltb-false, lt-leb}
 use Rattle.laws.specs.Room.{zeros, filled, Put}
 use Rattle.laws.specs.Tests.{same}
 use Rattle.laws.proofs.Cases.{which}
@@ -20,7 +20,6 @@ use Rattle.verdicts.specs.Verdicts.{outright, verdict_of}
 use Rattle.verdicts.specs.Output.{refusal, text}
 use Rattle.verdicts.specs.declared.Fault.{Fault}
 use Rattle.verdicts.specs.declared.Fault.TheVariants.{NoDate, SmallRoom, TornFolder}
-use Rattle.verdicts.specs.declared.Outcome.TheVariants.{Broken}
 use Rattle.verdicts.specs.declared.Verdict.{Verdict}
 use Rattle.verdicts.proofs.Apart.{number_small}
 use Rattle.container.specs.Container.{largest}
@@ -28,17 +27,18 @@ use Rattle.container.specs.Reading.{Parsed, values, fault, parsed, located, outc
 use Rattle.container.proofs.Sizes.{Measured, measured}
 use Rattle.card.specs.Card.{verdict_text}
 use Rattle.card.proofs.Bound.{verdict-most}
-use Rattle.summary.specs.Rows.{row_text, last_text, Row, refuses, writes, row_room, row_of, fails, rowed_of, line_of, RowAnswers, whole, lent, by_length, tally, seen, tallied, Judged, alike, last_output}
+use Rattle.summary.specs.Rows.{row_text, last_text, Row, refuses, writes, row_room, row_of, rowed, rowed_of, line_of, RowAnswers, whole, lent, by_length, tally, seen, counted, tallied, Judged, alike, last_output}
 use Rattle.summary.specs.declared.Tally.{Tally}
-use Rattle.summary.specs.declared.Rowed.{Rowed}
+use Rattle.std.specs.Prelude.{Ok, Err}
+use Rattle.std.specs.Borrow.{Bor}
+use Rattle.laws.specs.Bytes.{Bytes}
+use Rattle.verdicts.specs.declared.Finding.{Finding}
+use Rattle.container.specs.Map.{map_of}
+use Rattle.container.specs.Judged.{Of, contents}
+use Rattle.container.specs.declared.conforming.Conforming.{Conforming}
+use Rattle.container.proofs.Lying.{map_values, read-broken, read-fine}
 
 -- ---- a FASC-N that is seen
-
-pub first-seen : (t : Tally) (f : List ℕ) {e : List ℕ} {n : ℕ} → t.agreement ≡ 0 → length f ≡ 25 → Put f (zeros 25) e n → tally t.good 1 e ≡ seen f t
-unfolding seen filled
-first-seen t f h l p =
-    let none_left : 25 - length f ≡ 0 = omega arith in
-    rw (eq-eqb _ _ h) (ap (tally t.good 1) ((put-filled {k = 25} refl (omega arith) p).0 ∙ rw none_left (append-nil f)))
 
 module _ (t : Tally) (f : List ℕ) (h : t.agreement ≡ 0 → ⊥) where
   pub other-seen : (eqb t.agreement 1 && not (same t.fascn f)) ≡ true → tally t.good 2 t.fascn ≡ seen f t
@@ -60,13 +60,13 @@ module _ (kind today : ℕ) (d : List ℕ) (date : is_date today ≡ true) (long
         | inr k ↦ rw k
       ]
 
-  pub long-verdict : verdict kind today d ≡ verdict_of (Broken (outright (by_length kind)))
+  pub long-verdict : verdict kind today d ≡ verdict_of (Err (outright (by_length kind)))
   unfolding outcome
   long-verdict = rw long-parsed
 
 module _ (kind today size : ℕ) (c : List ℕ) where
   pub whole_long : is_date today ≡ true → largest < size
-      → (verdict kind today (whole size c) ≡ verdict_of (Broken (outright (by_length kind)))) × (parsed kind today (whole size c) ≡ fault (outright (by_length kind)))
+      → (verdict kind today (whole size c) ≡ verdict_of (Err (outright (by_length kind)))) × (parsed kind today (whole size c) ≡ fault (outright (by_length kind)))
   whole_long d l =
       let longer : largest < length (zeros size) = omega (arith, length-replicate {A = ℕ} size 0) in
       rw (lt-ltb _ _ l) (long-verdict kind today (zeros size) d longer, long-parsed kind today (zeros size) d longer)
@@ -82,19 +82,26 @@ module _ (kind today size : ℕ) (c : List ℕ) where
         | inr l ↦ ap (parsed kind today) (whole-lent (ltb-false _ _ l) ∙ sym (h (ltb-false _ _ l)))
       ]
 
--- what a judge answers
-module _ {kind today size : ℕ} {c : List ℕ} {t : Tally} {v : Verdict} where
-  pub judged-long : is_date today ≡ true → largest < size → v ≡ verdict_of (Broken (outright (by_length kind))) → Judged kind today size c t (record { verdict = v; tally = t })
-  judged-long d l e =
+-- what a judge answers: of one that is too long, of one that breaks a rule, and of one that conforms
+module _ (kind today size : ℕ) (t : Tally) where
+  pub judged_long : (c : List ℕ) → is_date today ≡ true → largest < size → Judged kind today size c t (verdict_of (Err (outright (by_length kind))), t)
+  judged_long c d l =
       let (w, p) = whole_long kind today size c d l in
-      record { verdict_is = e ∙ sym w; tally_is = ap (λ (p : Parsed (List ℕ)). tallied kind p t) (sym p) }
+      record { verdict_is = sym w; tally_is = ap (λ (p : Parsed (List ℕ)). tallied kind p t) (sym p) }
 
-  pub judged-lent : size ≤ largest → (p : Parsed (List ℕ)) → parsed kind today c ≡ p → v ≡ verdict_of (outcome_of p) → {u : Tally} → u ≡ tallied kind p t
-      → Judged kind today size c t (record { verdict = v; tally = u })
+  judged-lent : (c : List ℕ) → size ≤ largest → (p : Parsed (List ℕ)) → parsed kind today c ≡ p → Judged kind today size c t (verdict_of (outcome_of p), tallied kind p t)
   unfolding outcome
-  judged-lent l p h e f =
+  judged-lent c l p h =
       let same : parsed kind today (whole size c) ≡ p = ap (parsed kind today) (whole-lent kind today size c l) ∙ h in
-      record { verdict_is = e ∙ ap (λ (p : Parsed (List ℕ)). verdict_of (outcome_of p)) (sym same); tally_is = f ∙ ap (λ (p : Parsed (List ℕ)). tallied kind p t) (sym same) }
+      record { verdict_is = ap (λ (p : Parsed (List ℕ)). verdict_of (outcome_of p)) (sym same); tally_is = ap (λ (p : Parsed (List ℕ)). tallied kind p t) (sym same) }
+
+  pub judged_told : (c : List ℕ) {f : Finding} → size ≤ largest → Err f ≡ map_of (located kind today c) → Judged kind today size c t (verdict_of (Err f), t)
+  judged_told c {f} l e = judged-lent c l (fault f) (read-broken kind today c e)
+
+  pub judged_kept : (c : Bor (List ℕ)) (b : Bytes c.now) {m : Conforming} → size ≤ largest → Ok m.rows.spans ≡ map_of (located kind today c.now) → Of kind today c m
+      → Judged kind today size c.now t (verdict_of (Ok tt), counted m.kind (contents m) t)
+  judged_kept c b {m} l e o =
+      rw (o.kind_is, o.bytes_are) (judged-lent c.now l (values (map_values kind m.rows.spans c.now)) (read-fine kind today c.now e b))
 
 -- ---- the lines
 
@@ -161,13 +168,13 @@ module _ (today kind offset size : ℕ) (c : List ℕ) (t : Tally) (room : ℕ) 
       unfolding row_of
       row-0 h = rw (d, le-ltb _ _ l, h)
 
--- what is answered and left, by the row
-pub refused-row : {today kind offset size : ℕ} {c : List ℕ} {t : Tally} (d : List ℕ) {e : List ℕ} {r : Rowed} {f : Fault} → row_of today kind offset size c t (length d) ≡ refuses f
-    → e ≡ zeros (length d) → r ≡ fails f t → RowAnswers today kind offset size c t d e r
-refused-row {t = t} d h z e = record { answer = e ∙ ap (rowed_of t) (sym h); room = z ∙ filled_none (length d) ∙ ap (λ (x : Row). filled (line_of x) (length d)) (sym h) }
+-- what is answered and left, by the row, of a room that was cleared
+pub refused_row : {today kind offset size : ℕ} {c : List ℕ} {t : Tally} (d : List ℕ) {f : Fault} → row_of today kind offset size c t (length d) ≡ refuses f
+    → d ≡ zeros (length d) → RowAnswers today kind offset size c t d d (rowed t (Err f))
+refused_row {t = t} d h z = record { answer = ap (rowed_of t) (sym h); room = z ∙ filled_none (length d) ∙ ap (λ (x : Row). filled (line_of x) (length d)) (sym h) }
 
-pub written_row : {today kind offset size : ℕ} {c : List ℕ} {t : Tally} (d : List ℕ) {z e line : List ℕ} {u : Tally} {n : ℕ} → row_of today kind offset size c t (length d) ≡ writes line u
-    → z ≡ zeros (length d) → length line ≤ length d → Put line z e n → RowAnswers today kind offset size c t d e (record { number = 0; length = n; tally = u })
+pub written_row : {today kind offset size : ℕ} {c : List ℕ} {t : Tally} (d : List ℕ) {e line : List ℕ} {u : Tally} {n : ℕ} → row_of today kind offset size c t (length d) ≡ writes line u
+    → d ≡ zeros (length d) → length line ≤ length d → Put line d e n → RowAnswers today kind offset size c t d e (rowed t (Ok (n, u)))
 written_row {t = t} d {u = u} h z l p =
     let (f, n) = put-filled z l p in
     record {

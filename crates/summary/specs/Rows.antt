@@ -1,5 +1,5 @@
 -- Request 2026-14: a row of a folder's summary, its two last lines, and the state that goes from row to row.
-use Rattle.std.specs.Prelude.{ℕ, ◌+◌, ◌≡◌, Bool, cond, not, ◌&&◌, ◌||◌, List, [], ◌++◌, eqb, ltb, length}
+use Rattle.std.specs.Prelude.{ℕ, ◌+◌, ◌≡◌, Bool, cond, not, ◌&&◌, ◌||◌, List, [], ◌++◌, eqb, ltb, length, Result, Ok, Err}
 use Rattle.std.proofs.Math.Option.{Option, none, some}
 use Rattle.laws.specs.Room.{zeros, filled}
 use Rattle.laws.specs.Tests.{same}
@@ -17,7 +17,6 @@ use Rattle.card.specs.Card.{verdict_text}
 use Rattle.opens.specs.Open.{tagged_value, in_header}
 use Rattle.summary.specs.declared.Tally.{Tally}
 use Rattle.summary.specs.declared.Rowed.{Rowed}
-use Rattle.summary.specs.declared.Judging.{Judging}
 
 -- ---- the lines
 
@@ -86,9 +85,9 @@ abbrev pub lent : ℕ → ℕ → Bool
 lent size n = ltb largest size || eqb n size
 
 -- the verdict and the state, as the code has them
-pub record Judged (kind today size : ℕ) (c : List ℕ) (t : Tally) (r : Judging) : Type 0 where
-  pub verdict_is : r.verdict ≡ verdict kind today (whole size c)
-  pub tally_is : r.tally ≡ tallied kind (parsed kind today (whole size c)) t
+pub record Judged (kind today size : ℕ) (c : List ℕ) (t : Tally) (r : Verdict × Tally) : Type 0 where
+  pub verdict_is : r.0 ≡ verdict kind today (whole size c)
+  pub tally_is : r.1 ≡ tallied kind (parsed kind today (whole size c)) t
 
 -- what is answered: a refusal, which leaves the state as it was, or a line and the state after it
 pub data Row : Type 0 where
@@ -111,6 +110,11 @@ row_of today kind offset size c t room =
 
 abbrev pub fails : Fault → Tally → Rowed
 fails f t = record { number = number_of f; length = 0; tally = t }
+
+-- a line of so many bytes and the state after it, or a refusal
+abbrev pub rowed : Tally → Result (ℕ × Tally) Fault → Rowed
+rowed t (Ok w) = record { number = 0; length = w.0; tally = w.1 }
+rowed t (Err f) = fails f t
 
 abbrev pub rowed_of : Tally → Row → Rowed
 rowed_of t (refuses f) = fails f t

@@ -2,19 +2,15 @@
 // and the state that goes from row to row.
 #![tactic(auto)]
 
-ghost use Rattle.std.specs.Prelude.{true, ◌≡◌, ℕ, ltb, length};
+ghost use Rattle.std.specs.Prelude.{true, ◌≡◌, ltb, length};
 ghost use Rattle.laws.specs.Room.{zeros, Put};
 ghost use Rattle.verdicts.specs.Output.{Leaves};
-ghost use Rattle.verdicts.specs.Verdicts.{outright, verdict_of};
-ghost use Rattle.verdicts.specs.declared.Outcome.TheVariants.{Broken};
-ghost use Rattle.kinds.specs.Tables.{table};
 ghost use Rattle.dates.specs.Date.{is_date};
-ghost use Rattle.container.specs.Container.{Allowed};
-ghost use Rattle.container.specs.Map.{Inside, row_values};
-ghost use Rattle.summary.specs.Rows.{one_more, seen, counted, by_length, lent, Judged, row_text, last_text, alike, fails, row_room, RowAnswers, last_output};
+ghost use Rattle.container.specs.Judged.{contents};
+ghost use Rattle.summary.specs.Rows.{one_more, seen, counted, by_length, lent, Judged, row_text, last_text, alike, rowed, row_room, RowAnswers, last_output};
 
-use container::Map;
-use verdicts::{Done, Fault, Outcome, Verdict};
+use container::Conforming;
+use verdicts::{Done, Fault, Finding, Verdict};
 
 // "the state of the folder by value": how many conform so far; 0 while no FASC-N was seen, 1 while all that were seen are alike,
 // else they differ; the first that was seen. It begins as zeros.
@@ -33,105 +29,78 @@ pub struct Rowed {
     pub tally: Tally,
 }
 
-// What a container's row is made of: the verdict, and the state with this container.
-#[derive(Clone, Copy)]
-struct Judging {
-    verdict: Verdict,
-    tally: Tally,
-}
-
 // One container more conforms. A state that a caller made may hold any number: the count stays at the largest.
 fn one_more(tally: Tally) -> Tally
     ensures { result ≡ one_more tally }
 {
-    let good = tally.good;
-    if good == 18446744073709551615 {
-        return tally;
-    }
-    let fascn = tally.fascn;
     Tally {
-        good: good + 1,
-        agreement: tally.agreement,
-        fascn: fascn,
+        good: tally.good.saturating_add(1),
+        ..tally
     }
 }
 
 // A FASC-N was seen: it is the first, or it is compared with the first.
+#[tactic(auto, unfolding(crate::specs::Rows::seen))]
 fn note(tally: Tally, fascn: &[u8]) -> Tally
     requires { length fascn.now ≡ 25 }
     ensures { result ≡ seen fascn.now tally }
 {
-    let agreement = tally.agreement;
-    if agreement == 0 {
-        let mut first = [0u8; 25];
-        room::put_all(fascn, &mut first);
-        return Tally {
-            good: tally.good,
-            agreement: 1,
-            fascn: first,
-        };
-    }
-    let first = tally.fascn;
-    if (agreement == 1) & !plain::same(&first, fascn) {
-        return Tally {
-            good: tally.good,
+    match tally.agreement {
+        0 => {
+            let mut first = [0u8; 25];
+            first.copy_from_slice(fascn);
+            Tally {
+                agreement: 1,
+                fascn: first,
+                ..tally
+            }
+        }
+        1 if !plain::same(&tally.fascn, fascn) => Tally {
             agreement: 2,
-            fascn: first,
-        };
+            ..tally
+        },
+        _ => tally,
     }
-    tally
 }
 
 // A container that conforms: "all FASC-N in conforming CHUID, FINGERS, FACE and iris containers". A CHUID's is its second row; a
 // biometric's stands at 59 of the value of its first.
-fn conforming(kind: u64, c: &[u8], map: Map, tally: Tally) -> Tally
-    requires inside { Inside map.from map.to (length c.now) }
-    requires by_index { (today : ℕ) × Allowed today (table kind) (row_values map.from map.to c.now (length (table kind)) 0) }
-    ensures { result ≡ counted kind (row_values map.from map.to c.now (length (table kind)) 0) tally }
+fn conforming(c: Conforming, tally: Tally) -> Tally
+    ensures { result ≡ counted c.entry.kind (contents c.entry) tally }
 {
     let more = one_more(tally);
-    if kind == 2 {
-        return note(more, container::part(c, map, 1));
+    match c.kind {
+        2 => note(more, c.rows.part(1)),
+        6 | 7 | 12 => {
+            let value = c.rows.part(0);
+            note(more, &value[59..84])
+        }
+        _ => more,
     }
-    if (kind == 6) | (kind == 7) | (kind == 12) {
-        let value = container::part(c, map, 0);
-        return note(more, &value[59..84]);
-    }
-    more
 }
 
 // "one over 32,768 by its length alone": an unknown kind wins over that.
-fn too_long(kind: u64) -> Verdict
-    ensures { result ≡ verdict_of (Broken (outright (by_length kind))) }
+fn too_long(kind: u64) -> Fault
+    ensures { result ≡ by_length kind }
 {
     if kinds::is_kind(kind) {
-        return verdicts::verdict_of(Outcome::Broken(verdicts::outright(Fault::LargeContainer)));
+        Fault::LargeContainer
+    } else {
+        Fault::UnknownKind
     }
-    verdicts::verdict_of(Outcome::Broken(verdicts::outright(Fault::UnknownKind)))
 }
 
 // The verdict on a container of so many bytes, and the state with it.
-fn judge(kind: u64, today: u64, size: u64, c: &[u8], tally: Tally) -> Judging
+fn judge(kind: u64, today: u64, size: u64, c: &[u8], tally: Tally) -> (Verdict, Tally)
     requires { is_date today ≡ true }
     ensures { Judged kind today size c.now tally result }
 {
     if 32768 < size {
-        return Judging {
-            verdict: too_long(kind),
-            tally: tally,
-        };
+        return (Finding::from(too_long(kind)).into(), tally);
     }
-    let map = container::judge(kind, today, c);
-    let outcome = map.outcome;
-    match outcome {
-        Outcome::Broken(_) => Judging {
-            verdict: verdicts::verdict_of(outcome),
-            tally: tally,
-        },
-        Outcome::Fine => Judging {
-            verdict: verdicts::verdict_of(outcome),
-            tally: conforming(kind, c, map, tally),
-        },
+    match container::judge(kind, today, c) {
+        Err(f) => (f.into(), tally),
+        Ok(read) => (Verdict::CONFORMS, conforming(read, tally)),
     }
 }
 
@@ -145,17 +114,6 @@ fn put_row(kind: u64, offset: u64, size: u64, verdict: Verdict, out: &mut [u8]) 
     at + card::put_numbers(verdict, &mut out[at..])
 }
 
-// A refusal leaves the state as it was.
-fn refused(fault: Fault, tally: Tally) -> Rowed
-    ensures { result ≡ fails fault tally }
-{
-    Rowed {
-        number: verdicts::number_of(fault),
-        length: 0,
-        tally: tally,
-    }
-}
-
 // Whether the container that is lent has the length that the folder says: one that is judged by its length is not looked at.
 fn is_lent(size: u64, length: usize) -> bool
     ensures { result ≡ lent size length }
@@ -163,16 +121,42 @@ fn is_lent(size: u64, length: usize) -> bool
     (32768 < size) | (length as u64 == size)
 }
 
-// The room is cleared, once, and whether it is "under 64 bytes".
-fn prepare(room: &mut [u8]) -> bool
-    ensures { (room.new ≡ zeros (length room.old)) × (result ≡ ltb (length room.old) row_room) }
+// "room under 64 bytes": of a row, and of the last lines.
+fn is_small(room: &[u8]) -> bool
+    ensures { result ≡ ltb (length room.now) row_room }
 {
-    room::clear(room);
     room.len() < 64
 }
 
-// A row: "2 for today comes first of all; 3 for a row's .. room under 64 bytes, before that container is looked at"; 32 where it was
-// cut short.
+// A row's line and the state after it: "2 for today comes first of all; 3 for a row's .. room under 64 bytes, before that container is
+// looked at"; 32 where it was cut short.
+fn line(
+    today: u64,
+    kind: u8,
+    offset: u64,
+    size: u64,
+    container: &[u8],
+    tally: Tally,
+    room: &mut [u8],
+) -> Result<(usize, Tally), Fault>
+    requires { room.old ≡ zeros (length room.old) }
+    ensures { RowAnswers today kind offset size container.now tally room.old room.new (rowed tally result) }
+{
+    if !dates::is_date(today) {
+        return Err(Fault::NoDate);
+    }
+    if is_small(room) {
+        return Err(Fault::SmallRoom);
+    }
+    if !is_lent(size, container.len()) {
+        return Err(Fault::TornFolder);
+    }
+    let kind = u64::from(kind);
+    let (verdict, tally) = judge(kind, today, size, container, tally);
+    Ok((put_row(kind, offset, size, verdict, room), tally))
+}
+
+// A row. The room is cleared, once, before; and a refusal leaves the state as it was.
 pub fn row(
     today: u64,
     kind: u8,
@@ -184,25 +168,18 @@ pub fn row(
 ) -> Rowed
     ensures { RowAnswers today kind offset size container.now tally room.old room.new result }
 {
-    let small = prepare(room);
-    if !dates::is_date(today) {
-        return refused(Fault::NoDate, tally);
-    }
-    if small {
-        return refused(Fault::SmallRoom, tally);
-    }
-    if !is_lent(size, container.len()) {
-        return refused(Fault::TornFolder, tally);
-    }
-    let kind = numbers::wide(kind);
-    let judged = judge(kind, today, size, container, tally);
-    let verdict = judged.verdict;
-    let length = put_row(kind, offset, size, verdict, room);
-    let tally = judged.tally;
-    Rowed {
-        number: 0,
-        length: length as u64,
-        tally: tally,
+    room::clear(room);
+    match line(today, kind, offset, size, container, tally, room) {
+        Ok((length, tally)) => Rowed {
+            number: 0,
+            length: length as u64,
+            tally,
+        },
+        Err(fault) => Rowed {
+            number: fault.into(),
+            length: 0,
+            tally,
+        },
     }
 }
 
@@ -221,8 +198,9 @@ fn put_last(good: u64, agreement: u64, out: &mut [u8]) -> usize
 pub fn last(good: u64, agreement: u64, room: &mut [u8]) -> Done
     ensures { Leaves (last_output good agreement (length room.old)) room.old room.new result }
 {
-    if prepare(room) {
-        return verdicts::refused(verdicts::outright(Fault::SmallRoom));
+    room::clear(room);
+    if is_small(room) {
+        return Done::from(Err(Fault::SmallRoom.into()));
     }
-    verdicts::wrote(put_last(good, agreement, room))
+    Done::from(Ok(put_last(good, agreement, room)))
 }

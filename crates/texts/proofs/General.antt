@@ -1,12 +1,6 @@
 -- A text that is laid into a room from its last byte to its first. Nothing here is about numbers. Assumes nothing.
-use mathlib.Core.Path.{◌≡◌, refl, ap, ◌∙◌}
-use mathlib.Core.List.{List, [], ◌∷◌}
-use Prim.Native.Nat.{ℕ, zero, suc, ◌≤◌}
-use native.Mathlib.Nat.{not-suc-le-zero, le_of_suc-le-suc}
-use native.Mathlib.Omega.{arith}
-use lib.ListN.{length, set}
+use Rattle.std.proofs.Common.{◌≡◌, refl, ap, sym, ◌∙◌, List, [], ◌∷◌, ℕ, zero, suc, min, arith, length, set}
 use Rattle.laws.specs.Room.{laid, taken, Put}
-use Rattle.laws.proofs.Rooms.{taken-whole}
 
 -- the text p over the room d from index i on, as far as d goes
 abbrev pub over : ℕ → List ℕ → List ℕ → List ℕ
@@ -28,14 +22,10 @@ over-next (suc i) x p (y ∷ d) = ap (λ (l : List ℕ). y ∷ l) (over-next i x
 
 -- ---- how much of it the room took
 
-taken-full : (p d : List ℕ) → length d ≤ length p → taken p d ≡ length d
-taken-full [] [] h = refl
-taken-full [] (y ∷ d) h = absurd (not-suc-le-zero h)
-taken-full (x ∷ p) [] h = refl
-taken-full (x ∷ p) (y ∷ d) h = ap suc (taken-full p d (le_of_suc-le-suc h))
+taken-min : (p d : List ℕ) → taken p d ≡ min (length p) (length d)
+taken-min [] d = omega arith
+taken-min (x ∷ p) [] = omega arith
+taken-min (x ∷ p) (y ∷ d) = omega (arith, taken-min p d)
 
-pub put_whole : {p d e : List ℕ} {n : ℕ} → e ≡ laid p d → n ≡ length p → n ≤ length d → Put p d e n
-put_whole {p} {d} {e} {n} r c h = record { room = r; count = c ∙ rw (taken-whole p d (omega arith)); inside = h }
-
-pub put-cut : {p d e : List ℕ} {n : ℕ} → e ≡ laid p d → n ≡ length d → n ≤ length p → Put p d e n
-put-cut {p} {d} {e} {n} r c h = record { room = r; count = c ∙ rw (taken-full p d (omega arith)); inside = omega arith }
+pub put-laid : {p d e : List ℕ} {n : ℕ} → e ≡ laid p d → n ≡ min (length p) (length d) → Put p d e n
+put-laid {p} {d} r c = record { room = r; count = c ∙ sym (taken-min p d); inside = omega arith }

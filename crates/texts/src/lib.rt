@@ -3,20 +3,11 @@
 // does the text: no writer asks anything of its caller.
 #![tactic(auto)]
 
-ghost use Rattle.std.specs.Prelude.{◌≡◌, ◌++◌, ◌<◌, set};
+ghost use Rattle.std.specs.Prelude.{◌≡◌, ◌++◌, ◌<◌};
 ghost use Rattle.laws.specs.Room.{Put};
 ghost use Rattle.texts.specs.Text.{fixed, decimal, numeral, digits_line, hex_digit, hex2, hex_tag};
 
 use room::{put_all, put_byte};
-
-// One byte at its place, where the room has that place.
-fn store(b: u8, at: usize, out: &mut [u8])
-    ensures { out.new ≡ set out.old at b }
-{
-    if at < out.len() {
-        out[at] = b;
-    }
-}
 
 // The last `width` digits of n. They come lowest first, so they are laid from the last place to the first: no byte is
 // written twice, and no call nests.
@@ -24,29 +15,21 @@ pub fn put_fixed(width: usize, n: u64, out: &mut [u8]) -> usize
     ensures { Put (fixed width n) out.old out.new result }
 {
     let mut rest = n;
-    let mut i = width;
-    while 0 < i {
-        i -= 1;
-        store(48 + (rest % 10) as u8, i, out);
+    for i in (0..width).rev() {
+        // Stays a test and an index: tried with `get_mut`, whose contract does not say what the room ends as.
+        if i < out.len() {
+            out[i] = 48 + (rest % 10) as u8;
+        }
         rest /= 10;
     }
-    if width < out.len() {
-        return width;
-    }
-    out.len()
+    width.min(out.len())
 }
 
-// How many digits n has.
+// How many digits n has: 0 has one.
 fn places(n: u64) -> usize
     ensures { decimal n ≡ fixed result n }
 {
-    let mut rest = n;
-    let mut count = 1;
-    while 9 < rest {
-        rest /= 10;
-        count += 1;
-    }
-    count
+    n.max(1).ilog10() as usize + 1
 }
 
 // n without leading zeros.
@@ -57,6 +40,7 @@ pub fn put_decimal(n: u64, out: &mut [u8]) -> usize
 }
 
 // A number without leading zeros, and the mark that ends it. One digit, as most lengths have, is put at once with its mark.
+#[tactic(auto, using(crate::proofs::Texts::decimal_one))]
 pub fn put_number(n: u64, mark: u8, out: &mut [u8]) -> usize
     ensures { Put (numeral n mark) out.old out.new result }
 {
@@ -89,13 +73,11 @@ fn hex_digit(d: u8) -> u8
     requires { d < 16 }
     ensures { result ≡ hex_digit d }
 {
-    if d < 10 {
-        return 48 + d;
-    }
-    55 + d
+    if d < 10 { 48 + d } else { 55 + d }
 }
 
 // A byte as two hex digits.
+#[tactic(auto, unfolding(crate::specs::Text::hex2))]
 pub fn put_hex(b: u8, out: &mut [u8]) -> usize
     ensures { Put (hex2 b) out.old out.new result }
 {
@@ -103,6 +85,7 @@ pub fn put_hex(b: u8, out: &mut [u8]) -> usize
 }
 
 // A tag as two hex digits, or as four.
+#[tactic(auto, unfolding(crate::specs::Text::hex_tag))]
 pub fn put_tag(tag: u64, out: &mut [u8]) -> usize
     ensures { Put (hex_tag tag) out.old out.new result }
 {

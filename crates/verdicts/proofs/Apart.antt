@@ -7,26 +7,24 @@ use native.Mathlib.Decide.{dec_lt}
 use lib.ListN.{get_or, get_or-eq_default}
 use Rattle.verdicts.specs.declared.Fault.{Fault}
 use Rattle.verdicts.specs.declared.Fault.TheVariants.{UnknownKind, NoDate, SmallRoom, LargeContainer, TornSheet, NoElement, LongNumber, OuterTag, LengthForm, Overrun, UnknownTag, TagOrder, MissingRow, ElementLength, BadFascn, BadUuid, BadDate, BadFixed, BadHeader, BadMinutiae, BadText, BadDer, TooDeep, BadFace, BadIris, FascnDiffer, BiometricBlock, ChuidBlock, NeitherHolds, TornFolder}
-use Rattle.verdicts.specs.declared.Tag.TheVariants.{NoTag, Of}
+use Rattle.std.specs.Prelude.{Some, None, Ok, Err}
 use Rattle.verdicts.specs.declared.Finding.{Finding}
-use Rattle.verdicts.specs.declared.Outcome.{Outcome}
-use Rattle.verdicts.specs.declared.Outcome.TheVariants.{Fine, Broken}
 use Rattle.verdicts.specs.declared.Verdict.{Verdict}
-use Rattle.verdicts.specs.Verdicts.{number_of, tag_number, outright, verdict_of}
+use Rattle.verdicts.specs.Verdicts.{Outcome, number_of, tag_number, outright, verdict_of}
 
 -- the outcomes by their numbers, each of the whole
 by_number : List Outcome
 by_number =
-    Fine ∷ b UnknownKind ∷ b NoDate ∷ b SmallRoom ∷ b LargeContainer ∷ b TornSheet ∷ b NoElement ∷ b LongNumber ∷ Fine ∷ Fine ∷ b OuterTag
+    Ok tt ∷ b UnknownKind ∷ b NoDate ∷ b SmallRoom ∷ b LargeContainer ∷ b TornSheet ∷ b NoElement ∷ b LongNumber ∷ Ok tt ∷ Ok tt ∷ b OuterTag
     ∷ b LengthForm ∷ b Overrun ∷ b UnknownTag ∷ b TagOrder ∷ b MissingRow ∷ b ElementLength ∷ b BadFascn ∷ b BadUuid ∷ b BadDate ∷ b BadFixed
     ∷ b BadHeader ∷ b BadMinutiae ∷ b BadText ∷ b BadDer ∷ b TooDeep ∷ b BadFace ∷ b BadIris ∷ b FascnDiffer ∷ b BiometricBlock ∷ b ChuidBlock ∷ b NeitherHolds
     ∷ b TornFolder ∷ []
   where
     b : Fault → Outcome
-    b f = Broken (outright f)
+    b f = Err (outright f)
 
 -- a fault stands at its number
-stands : (f : Fault) → get_or by_number (number_of f) Fine ≡ Broken (outright f)
+stands : (f : Fault) → get_or by_number (number_of f) (Ok tt) ≡ Err (outright f)
 unfolding by_number
 stands UnknownKind = refl
 stands NoDate = refl
@@ -60,9 +58,9 @@ stands NeitherHolds = refl
 stands TornFolder = refl
 
 -- a number at which no fault stands is that of none
-unused : (n : ℕ) → get_or by_number n Fine ≡ Fine → (f : Fault) → number_of f ≡ n → ⊥
+unused : (n : ℕ) → get_or by_number n (Ok tt) ≡ Ok tt → (f : Fault) → number_of f ≡ n → ⊥
 unused n h f e =
-    let p : Broken (outright f) ≡ Fine = sym (stands f) ∙ ap (λ (n : ℕ). get_or by_number n Fine) e ∙ h in
+    let p : Err (outright f) ≡ Ok tt = sym (stands f) ∙ ap (λ (n : ℕ). get_or by_number n (Ok tt)) e ∙ h in
     let z : ◌≡◌ {A = ℕ} 0 1 = cc in
     omega arith
 
@@ -77,7 +75,7 @@ withdrawn f = (unused 8 refl f, unused 9 refl f)
 
 pub one-fault : (f g : Fault) → number_of f ≡ number_of g → f ≡ g
 one-fault f g e =
-    let p : Broken (outright f) ≡ Broken (outright g) = sym (stands f) ∙ ap (λ (n : ℕ). get_or by_number n Fine) e ∙ stands g in
+    let p : Err (outright f) ≡ Err (outright g) = sym (stands f) ∙ ap (λ (n : ℕ). get_or by_number n (Ok tt)) e ∙ stands g in
     let q : outright f ≡ outright g = cc in
     ap (λ (x : Finding). x.fault) q
 
@@ -87,25 +85,25 @@ unfolding by_number
 number_small f =
     elim (dec_lt (number_of f) 33) [
       | yes h ↦ omega arith
-      | no h ↦ absurd (unused (number_of f) (get_or-eq_default by_number Fine {n = number_of f} (omega arith)) f refl)
+      | no h ↦ absurd (unused (number_of f) (get_or-eq_default by_number (Ok tt) {n = number_of f} (omega arith)) f refl)
     ]
 
 -- two outcomes with one verdict are the same
 pub one-outcome : (o p : Outcome) → verdict_of o ≡ verdict_of p → o ≡ p
-one-outcome Fine Fine e = refl
-one-outcome Fine (Broken g) e = absurd (never-zero g.fault (sym (ap (λ (v : Verdict). v.number) e)))
-one-outcome (Broken f) Fine e = absurd (never-zero f.fault (ap (λ (v : Verdict). v.number) e))
-one-outcome (Broken f) (Broken g) e =
+one-outcome (Ok _) (Ok _) e = refl
+one-outcome (Ok _) (Err g) e = absurd (never-zero g.fault (sym (ap (λ (v : Verdict). v.number) e)))
+one-outcome (Err f) (Ok _) e = absurd (never-zero f.fault (ap (λ (v : Verdict). v.number) e))
+one-outcome (Err f) (Err g) e =
     let k = one-fault f.fault g.fault (ap (λ (v : Verdict). v.number) e) in
-    λ i. Broken (record { fault = k i; place = (e i).place; tag = (e i).tag })
+    λ i. Err (record { fault = k i; place = (e i).place; tag = (e i).tag })
 
 -- none is told by a number that no tag of one byte or two has, nor a byte 00
-pub told-apart : (t : ℕ) → t < 65536 → tag_number (Of t) ≡ tag_number NoTag → ⊥
+pub told-apart : (t : ℕ) → t < 65536 → tag_number (Some t) ≡ tag_number None → ⊥
 told-apart t h e = omega arith
 
-pub not-both : {t : ℕ} → NoTag ≡ Of t → ⊥
+pub not-both : {t : ℕ} → None ≡ Some t → ⊥
 not-both e = let z : ◌≡◌ {A = ℕ} 0 1 = cc in omega arith
 
 -- a fault of the whole has no tag
-pub untagged : {f : Finding} {g : Fault} {t : ℕ} → f ≡ outright g → f.tag ≡ Of t → ⊥
+pub untagged : {f : Finding} {g : Fault} {t : ℕ} → f ≡ outright g → f.tag ≡ Some t → ⊥
 untagged e h = not-both (sym (ap (λ (x : Finding). x.tag) e) ∙ h)

@@ -1,14 +1,8 @@
 -- 01, "Numbers", and requests 2026-04, 2026-05, 2026-06, 2026-11, 2026-12 and 2026-14: the number of each fault; and the verdict, a number, a place and, since 2026-02, the tag of the element there.
-use Rattle.std.specs.Prelude.{ℕ, Bool, cond}
+use Rattle.std.specs.Prelude.{ℕ, Bool, cond, Option, Some, None, Result, Ok, Err}
 use Rattle.verdicts.specs.declared.Fault.{Fault}
 use Rattle.verdicts.specs.declared.Fault.TheVariants.{UnknownKind, NoDate, SmallRoom, LargeContainer, TornSheet, NoElement, LongNumber, OuterTag, LengthForm, Overrun, UnknownTag, TagOrder, MissingRow, ElementLength, BadFascn, BadUuid, BadDate, BadFixed, BadHeader, BadMinutiae, BadText, BadDer, TooDeep, BadFace, BadIris, FascnDiffer, BiometricBlock, ChuidBlock, NeitherHolds, TornFolder}
-use Rattle.verdicts.specs.declared.Tag.{Tag}
-use Rattle.verdicts.specs.declared.Tag.TheVariants.{NoTag, Of}
 use Rattle.verdicts.specs.declared.Finding.{Finding}
-use Rattle.verdicts.specs.declared.Outcome.{Outcome}
-use Rattle.verdicts.specs.declared.Outcome.TheVariants.{Fine, Broken}
-use Rattle.verdicts.specs.declared.Ruling.{Ruling}
-use Rattle.verdicts.specs.declared.Ruling.TheVariants.{Kept, Breaks}
 use Rattle.verdicts.specs.declared.Verdict.{Verdict}
 use Rattle.laws.specs.Format.{Judged, kept, breaks}
 
@@ -51,30 +45,46 @@ number_of TornFolder = 32  -- folder cut short, bytes left over or count above 2
 abbrev pub no_tag : ℕ
 no_tag = 65536
 
+-- the tag of an element, or none
+abbrev pub Tag : Type 0
+Tag = Option ℕ
+
 abbrev pub tag_number : Tag → ℕ
-tag_number NoTag = no_tag
-tag_number (Of t) = t
+tag_number None = no_tag
+tag_number (Some t) = t
 
 -- "`--` .. for outer faults .. and for numbers that carry no place": a fault of the whole
 abbrev pub outright : Fault → Finding
-outright f = record { fault = f; place = 0; tag = NoTag }
+outright f = record { fault = f; place = 0; tag = None }
 
 -- a fault, its place, and the tag there
 abbrev pub found : Fault → ℕ → Tag → Finding
 found f place tag = record { fault = f; place = place; tag = tag }
 
+-- what a walk comes to: nothing is wrong, or the first finding
+abbrev pub Outcome : Type 0
+Outcome = Result (Unit {0}) Finding
+
 -- "0: conforms or done", and "`--` for 0"; else the fault's number, its place and its tag
 abbrev pub verdict_of : Outcome → Verdict
-verdict_of Fine = record { number = 0; place = 0; tag = NoTag }
-verdict_of (Broken f) = record { number = number_of f.fault; place = f.place; tag = f.tag }
+verdict_of (Ok tt) = record { number = 0; place = 0; tag = None }
+verdict_of (Err f) = record { number = number_of f.fault; place = f.place; tag = f.tag }
 
--- ---- the answer of a rule
+-- ---- the answer of a rule: a value keeps it, or breaks it with this fault
+
+abbrev pub Ruling : Type 0
+Ruling = Result (Unit {0}) Fault
+
+-- "0: conforms or done"; else the fault's number
+abbrev pub code_of : Ruling → ℕ
+code_of (Ok _) = 0
+code_of (Err f) = number_of f
 
 -- of a test with one fault
 abbrev pub unless : Fault → Bool → Ruling
-unless f test = cond test Kept (Breaks f)
+unless f test = cond test (Ok tt) (Err f)
 
 -- of a judge that goes through a table
 abbrev pub ruled : Judged Fault → Ruling
-ruled kept = Kept
-ruled (breaks f) = Breaks f
+ruled kept = Ok tt
+ruled (breaks f) = Err f

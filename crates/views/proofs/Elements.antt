@@ -14,50 +14,50 @@ use Rattle.laws.specs.Bytes.{Bytes}
 use Rattle.laws.proofs.Cases.{which, no-some, none-at}
 use Rattle.verdicts.specs.Verdicts.{outright, verdict_of}
 use Rattle.verdicts.specs.declared.Fault.TheVariants.{NoElement}
-use Rattle.verdicts.specs.declared.Outcome.TheVariants.{Fine, Broken}
 use Rattle.kinds.specs.Tables.{Table, table, first, row_at}
-use Rattle.kinds.specs.declared.Slot.TheVariants.{Holds, End}
+use Rattle.kinds.specs.declared.Slot.{Slot}
 use Rattle.container.specs.Container.{Values, has, Conforms}
 use Rattle.container.specs.Reading.{Parsed, values, fault, Part, values_of, located, parsed, outcome, verdict}
-use Rattle.container.proofs.Rows.{Distinct}
+use Rattle.container.proofs.Walking.{Distinct}
 use Rattle.container.proofs.Tags.{distinct}
 use Rattle.container.proofs.Lying.{Stands, stands}
 use Rattle.container.proofs.Promise.{parts_of, conforms-located, conforms-values}
 use Rattle.views.specs.Views.{View, part_of, place_of, nothing, shown, view_of, viewed}
-use Rattle.views.proofs.Placing.{placed}
+use Rattle.views.proofs.Placing.{same_tag, placed}
 use Rattle.views.proofs.Ways.{picked, by_parts}
+use Rattle.std.specs.Prelude.{Some, None, Ok, Err}
 
 -- ---- the part of a row's tag is that of the row
 
-no_row : {t : ℕ} {o : Bool} → End ≡ Holds t o → ⊥
+no_row : {s : Slot} → None ≡ Some s → ⊥
 no_row e = let z : ◌≡◌ {A = ℕ} 0 1 = cc in omega arith
 
-has-row : (rs : Table) (i : ℕ) {t : ℕ} {o : Bool} → first (drop i rs) ≡ Holds t o → has t rs ≡ true
+has-row : (rs : Table) (i : ℕ) {t : ℕ} {o : Bool} → first (drop i rs) ≡ Some (record { tag = t; optional = o }) → has t rs ≡ true
 has-row [] zero e = absurd (no_row e)
 has-row [] (suc i) e = absurd (no_row e)
-has-row (r ∷ rs) zero {t} e = let q : t ≡ r.tag = cc in rw (eq-eqb t r.tag q)
+has-row (r ∷ rs) zero {t} e = let q : t ≡ r.tag = sym (same_tag e) in rw (eq-eqb t r.tag q)
 has-row (r ∷ rs) (suc i) {t} e =
     elim (which (eqb t r.tag)) [
       | inl q ↦ rw q
       | inr q ↦ rw q (has-row rs i e)
     ]
 
-row-part : (rs : Table) (ps : List (Option Part)) (i : ℕ) → Distinct rs → {t : ℕ} {o : Bool} → first (drop i rs) ≡ Holds t o → part_of rs ps t ≡ get_or ps i none
+row-part : (rs : Table) (ps : List (Option Part)) (i : ℕ) → Distinct rs → {t : ℕ} {o : Bool} → first (drop i rs) ≡ Some (record { tag = t; optional = o }) → part_of rs ps t ≡ get_or ps i none
 row-part [] ps zero d e = absurd (no_row e)
 row-part [] ps (suc i) d e = absurd (no_row e)
 row-part (r ∷ rs) [] zero d e = refl
 row-part (r ∷ rs) [] (suc i) d e = refl
-row-part (r ∷ rs) (p ∷ ps) zero d {t} e = let q : t ≡ r.tag = cc in rw (eq-eqb t r.tag q)
+row-part (r ∷ rs) (p ∷ ps) zero d {t} e = let q : t ≡ r.tag = sym (same_tag e) in rw (eq-eqb t r.tag q)
 row-part (r ∷ rs) (p ∷ ps) (suc i) d {t} e =
     let n : eqb t r.tag ≡ false = ne_eqb t r.tag (λ q. true≢false (sym (has-row rs i e) ∙ ap (λ (u : ℕ). has u rs) q ∙ d.0)) in
     rw n (row-part rs ps i d.1 e)
 
 -- a tag that no row has
-foreign : (rs : Table) (ps : List (Option Part)) (t : ℕ) → ((i : ℕ) (o : Bool) → first (drop i rs) ≡ Holds t o → ⊥) → part_of rs ps t ≡ none
+foreign : (rs : Table) (ps : List (Option Part)) (t : ℕ) → ((i : ℕ) (o : Bool) → first (drop i rs) ≡ Some (record { tag = t; optional = o }) → ⊥) → part_of rs ps t ≡ none
 foreign [] ps t h = refl
 foreign (r ∷ rs) [] t h = refl
 foreign (r ∷ rs) (p ∷ ps) t h =
-    rw (ne_eqb t r.tag (λ q. h 0 r.optional (ap (λ (u : ℕ). Holds u r.optional) (sym q))))
+    rw (ne_eqb t r.tag (λ q. h 0 r.optional (rw q)))
     (foreign rs ps t (λ i. h (suc i)))
 
 -- ---- the value of a row, and its part
@@ -80,11 +80,11 @@ no-value-part (some p ∷ ps) (suc i) e = no-value-part ps i e
 -- ---- the theorems
 
 abbrev pub absent_view : View
-absent_view = record { verdict = verdict_of (Broken (outright NoElement)); part = nothing }
+absent_view = record { verdict = verdict_of (Err (outright NoElement)); part = nothing }
 
 -- a view that shows a value: 0, and the value's bytes in c, where the part says
 pub record Shows (c v : List ℕ) (w : View) : Type 0 where
-  pub verdict : w.verdict ≡ verdict_of Fine
+  pub verdict : w.verdict ≡ verdict_of (Ok tt)
   pub value : w.part.bytes ≡ v
   pub inside : w.part.offset + length v ≤ length c
   pub stands : take (length v) (drop w.part.offset c) ≡ v
@@ -113,7 +113,7 @@ module _ (kind today : ℕ) (c : List ℕ) (b : Bytes c) (vs : Values) (h : Conf
   values_are : values_of parts ≡ vs
   values_are = conforms-values kind today c vs h
 
-  module _ (i : ℕ) {t : ℕ} {o : Bool} (row : row_at kind i ≡ Holds t o) where
+  module _ (i : ℕ) {t : ℕ} {o : Bool} (row : row_at kind i ≡ Some (record { tag = t; optional = o })) where
     of_row : viewed kind today c t ≡ shown (get_or parts i none)
     of_row = by_parts kind today c t b parts read ∙ ap shown (row-part (table kind) parts i (distinct kind) row)
 
@@ -133,5 +133,5 @@ module _ (kind today : ℕ) (c : List ℕ) (b : Bytes c) (vs : Values) (h : Conf
     absent-view e = of_row ∙ ap shown (no-value-part parts i (rw values_are e))
 
   -- a tag that is not of the kind
-  pub foreign-view : (t : ℕ) → ((i : ℕ) (o : Bool) → row_at kind i ≡ Holds t o → ⊥) → viewed kind today c t ≡ absent_view
+  pub foreign-view : (t : ℕ) → ((i : ℕ) (o : Bool) → row_at kind i ≡ Some (record { tag = t; optional = o }) → ⊥) → viewed kind today c t ≡ absent_view
   foreign-view t n = by_parts kind today c t b parts read ∙ ap shown (foreign (table kind) parts t n)

@@ -12,20 +12,22 @@ use lib.ListN.{length, take, drop, get_or, get_or-eq_default}
 use borrow.Author.Tests.{ne_eqb}
 use Rattle.laws.specs.Bytes.{Bytes}
 use Rattle.laws.proofs.Cases.{which, no-some, none-at}
-use Rattle.verdicts.specs.Verdicts.{verdict_of}
-use Rattle.verdicts.specs.declared.Outcome.TheVariants.{Fine, Broken}
 use Rattle.verdicts.specs.declared.Verdict.{Verdict}
 use Rattle.verdicts.specs.declared.Finding.{Finding}
 use Rattle.kinds.specs.Tables.{Table, table, find, row_of}
 use Rattle.kinds.specs.declared.Row.{Row}
-use Rattle.kinds.specs.declared.Row.TheVariants.{At, Missing}
 use Rattle.kinds.proofs.Every.{found-row}
-use Rattle.container.specs.Reading.{values, fault, Part, located}
-use Rattle.container.specs.Map.{map_of}
-use Rattle.container.specs.declared.Map.{Map}
-use Rattle.container.proofs.Lying.{Stands, All, stands, start_of, end_of, rows_are, lies}
-use Rattle.views.specs.Views.{View, part_of, shown, viewed, Locates}
-use Rattle.views.specs.ByMap.{absence, by_map}
+use Rattle.container.specs.Reading.{values, Part, located}
+use Rattle.container.specs.Map.{map_of, laid}
+use Rattle.container.proofs.Lying.{Stands, All, stands, span_of, told-broken, told-fine, rows_are, lies}
+use Rattle.verdicts.specs.Verdicts.{outright}
+use Rattle.verdicts.specs.declared.Fault.TheVariants.{NoElement}
+use Rattle.container.specs.Spans.{no_rows}
+use Rattle.std.specs.declared.ops.Range.{Range}
+use Rattle.container.specs.declared.rows.Span.{Span}
+use Rattle.views.specs.Views.{View, part_of, shown, viewed, located as located_by, Locates}
+use Rattle.views.specs.ByMap.{range_of, by_map}
+use Rattle.std.specs.Prelude.{Option as Maybe, Some, None, Result, Ok, Err}
 
 -- a part that lies so
 located-so : {v : View} (c : List ℕ) {w : Verdict} {from to : ℕ} {s : List ℕ} → v ≡ record { verdict = w; part = record { offset = from; bytes = s } }
@@ -42,29 +44,29 @@ located-so c e t i b =
 -- ---- the row that a tag has
 
 -- what a row's number says of the parts: the part of that row
-tagged : Row → ℕ → List (Option Part) → Option Part
-tagged Missing i ps = none
-tagged (At j from least most empty rule) i ps = get_or ps (j - (i + 1)) none
+tagged : Maybe Row → ℕ → List (Option Part) → Option Part
+tagged None i ps = none
+tagged (Some row) i ps = get_or ps (row.index - (i + 1)) none
 
 by_row : (rs : Table) (ps : List (Option Part)) (i from t : ℕ) → part_of rs ps t ≡ tagged (find i from rs t) i ps
 unfolding tagged
 by_row [] ps i from t = refl
 by_row (r ∷ rs) [] i from t = go (find i from (r ∷ rs) t)
   where
-    go : (x : Row) → none ≡ tagged x i []
-    go Missing = refl
-    go (At j f least most empty rule) = sym (get_or-eq_default [] none {n = j - (i + 1)} (omega arith))
+    go : (x : Maybe Row) → none ≡ tagged x i []
+    go None = refl
+    go (Some row) = sym (get_or-eq_default [] none {n = row.index - (i + 1)} (omega arith))
 by_row (r ∷ rs) (o ∷ ps) i from t =
     elim (which (eqb t r.tag)) [
       | inl q ↦ let z : i + 1 - (i + 1) ≡ 0 = omega arith in rw (q, z)
       | inr q ↦ rw q (by_row rs ps (i + 1) (cond r.optional from (i + 1)) t ∙ go (find (i + 1) (cond r.optional from (i + 1)) rs t) refl)
     ]
   where
-    go : (x : Row) → find (i + 1) (cond r.optional from (i + 1)) rs t ≡ x → tagged x (i + 1) ps ≡ tagged x i (o ∷ ps)
-    go Missing e = refl
-    go (At j f least most empty rule) e =
+    go : (x : Maybe Row) → find (i + 1) (cond r.optional from (i + 1)) rs t ≡ x → tagged x (i + 1) ps ≡ tagged x i (o ∷ ps)
+    go None e = refl
+    go (Some row) e =
         let h = found-row rs (i + 1) (cond r.optional from (i + 1)) t e in
-        let z : j - (i + 1) ≡ suc (j - (i + 1 + 1)) = omega (arith, h.0) in
+        let z : row.index - (i + 1) ≡ suc (row.index - (i + 1 + 1)) = omega (arith, h.0) in
         rw z
 
 -- a part of some that stand stands
@@ -77,11 +79,16 @@ picked c (some q ∷ ps) a (suc i) p e = picked c ps a.1 i p e
 
 -- ---- the ways out
 
+-- 6, where there is none
+abbrev pub answered : Maybe (Range ℕ) → Result (Range ℕ) Finding
+answered None = Err (outright NoElement)
+answered (Some r) = Ok r
+
 module _ (kind today : ℕ) (c : List ℕ) (tag : ℕ) where
   -- the check refuses
-  pub out-broken : {f : Finding} {w : Verdict} → located kind today c ≡ fault f → w ≡ verdict_of (Broken f) → Locates (viewed kind today c tag) c (record { verdict = w; from = 0; to = 0 })
+  pub out_broken : {f : Finding} → Err f ≡ map_of (located kind today c) → Locates (viewed kind today c tag) c (located_by (Err f))
   unfolding viewed
-  out-broken {f} e i = located-so c (rw (e, i)) refl (omega arith) refl
+  out_broken o = located-so c (rw (told-broken kind today c o)) refl (omega arith) refl
 
   module _ (b : Bytes c) (ps : List (Option Part)) (e : located kind today c ≡ values ps) where
     -- the view of what was read
@@ -89,25 +96,31 @@ module _ (kind today : ℕ) (c : List ℕ) (tag : ℕ) where
     unfolding viewed
     by_parts = rw e
 
+    -- where a row's value lies, or 6
+    abbrev Says : Maybe (Range ℕ) → Type 0
+    Says r = Locates (viewed kind today c tag) c (located_by (answered r))
+
     -- a row of the table: what the map has of it
-    in_row : (i : ℕ) (o : Option Part) → part_of (table kind) ps tag ≡ o → get_or ps i none ≡ o → {from to : ℕ} → from ≡ start_of o → to ≡ end_of o
-        → Locates (viewed kind today c tag) c (cond (eqb to 0) absence (record { verdict = verdict_of Fine; from = from; to = to }))
-    in_row i none q g f t = rw t (located-so c (by_parts ∙ ap shown q) refl (omega arith) refl)
-    in_row i (some p) q g f t =
+    in_row : (i : ℕ) (o : Option Part) → part_of (table kind) ps tag ≡ o → get_or ps i none ≡ o → {s : Span} → s ≡ span_of o → Says (range_of s)
+    in_row i none q g t = rw t (located-so c (by_parts ∙ ap shown q) refl (omega arith) refl)
+    in_row i (some p) q g t =
         let s = picked c ps (stands kind today c b ps e) i p g in
         let n : p.offset + length p.bytes ≡ 0 → ⊥ = λ z. omega (arith, s.behind) in
-        rw (t, ne_eqb _ _ n, f) (located-so c (by_parts ∙ ap shown q) refl s.within (rw add-sub_cancel_left s.bytes))
+        rw (t, ne_eqb _ _ n) (located-so c (by_parts ∙ ap shown q) refl s.within (rw add-sub_cancel_left s.bytes))
 
-    -- "View: check, then 6"
-    pub out-fine : {m : Map} → m ≡ map_of (located kind today c) → Locates (viewed kind today c tag) c (by_map (row_of kind tag) m.from m.to)
+    by_table : (x : Maybe Row) → row_of kind tag ≡ x → Says (by_map x (laid ps 0 no_rows))
     unfolding tagged
-    out-fine {m} z = rw z (go (row_of kind tag) refl)
-      where
-        go : (x : Row) → row_of kind tag ≡ x → Locates (viewed kind today c tag) c (by_map x (map_of (located kind today c)).from (map_of (located kind today c)).to)
-        go Missing x =
-            let n : part_of (table kind) ps tag ≡ none = by_row (table kind) ps 0 0 tag ∙ rw x in
-            located-so c (by_parts ∙ ap shown n) refl (omega arith) refl
-        go (At j f least most empty rule) x =
-            let h = found-row (table kind) 0 0 tag x in
-            let l = lies kind today c b ps e (j - 1) (omega (arith, h.0, h.1, rows_are kind today c b ps e)) in
-            in_row (j - 1) (get_or ps (j - 1) none) (by_row (table kind) ps 0 0 tag ∙ rw x) refl l.0 l.1
+    by_table None x =
+        let n : part_of (table kind) ps tag ≡ none = by_row (table kind) ps 0 0 tag ∙ rw x in
+        located-so c (by_parts ∙ ap shown n) refl (omega arith) refl
+    by_table (Some row) x =
+        let h = found-row (table kind) 0 0 tag x in
+        let l = lies kind today c b ps e (row.index - 1) (omega (arith, h.0, h.1, rows_are kind today c b ps e)) in
+        in_row (row.index - 1) (get_or ps (row.index - 1) none) (by_row (table kind) ps 0 0 tag ∙ rw x) refl l
+
+  -- "View: check, then 6"
+  pub out_fine : Bytes c → {rows : List Span} → Ok rows ≡ map_of (located kind today c)
+      → Locates (viewed kind today c tag) c (located_by (answered (by_map (row_of kind tag) rows)))
+  out_fine b {rows} o =
+      let (ps, e, z) = told-fine kind today c o in
+      rw z (by_table b ps e (row_of kind tag) refl)

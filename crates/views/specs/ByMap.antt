@@ -1,15 +1,14 @@
 -- What a map has of the row of a tag. Nothing of 01 is said here.
-use Rattle.std.specs.Prelude.{ℕ, ◌-◌, cond, List, eqb, get_or}
-use Rattle.verdicts.specs.declared.Tag.TheVariants.{NoTag}
+use Rattle.std.specs.Prelude.{ℕ, ◌-◌, cond, List, eqb, get_or, Option, Some, None}
+use Rattle.std.specs.declared.ops.Range.{Range}
 use Rattle.kinds.specs.declared.Row.{Row}
-use Rattle.kinds.specs.declared.Row.TheVariants.{At, Missing}
-use Rattle.views.specs.declared.Located.{Located}
+use Rattle.container.specs.Spans.{absent}
+use Rattle.container.specs.declared.rows.Span.{Span}
 
-abbrev pub absence : Located
-absence = record { verdict = record { number = 6; place = 0; tag = NoTag }; from = 0; to = 0 }
+-- where a row's value lies, if it is there
+abbrev pub range_of : Span → Option (Range ℕ)
+range_of s = cond (eqb s.to 0) None (Some (record { start = s.from; end = s.to }))
 
--- where the value of the row lies, or 6
-abbrev pub by_map : Row → List ℕ → List ℕ → Located
-by_map Missing starts ends = absence
-by_map (At i from least most empty rule) starts ends =
-    cond (eqb (get_or ends (i - 1) 0) 0) absence (record { verdict = record { number = 0; place = 0; tag = NoTag }; from = get_or starts (i - 1) 0; to = get_or ends (i - 1) 0 })
+abbrev pub by_map : Option Row → List Span → Option (Range ℕ)
+by_map None rows = None
+by_map (Some r) rows = range_of (get_or rows (r.index - 1) absent)

@@ -4,12 +4,13 @@ use Rattle.std.specs.Prelude.{ℕ, ◌+◌, ◌-◌, ◌≤◌, ◌≡◌, cond,
 use Rattle.std.proofs.Math.Option.{Option, none, some}
 use Rattle.verdicts.specs.Verdicts.{tag_number, outright, verdict_of}
 use Rattle.verdicts.specs.declared.Fault.TheVariants.{NoElement}
-use Rattle.verdicts.specs.declared.Outcome.TheVariants.{Fine, Broken}
 use Rattle.verdicts.specs.declared.Verdict.{Verdict}
 use Rattle.kinds.specs.Tables.{Table, table}
 use Rattle.container.specs.Container.{Values, Forms, long, spelled}
-use Rattle.container.specs.Reading.{Parsed, values, fault, Part, located}
-use Rattle.views.specs.declared.Located.{Located}
+use Rattle.container.specs.Reading.{Parsed, values, fault, Part, located as read}
+use Rattle.std.specs.declared.ops.Range.{Range}
+use Rattle.verdicts.specs.declared.Finding.{Finding}
+use Rattle.std.specs.Prelude.{Result, Ok, Err}
 
 -- the verdict, and the part: its offset in the container and its bytes
 pub record View : Type 0 where
@@ -34,15 +35,25 @@ abbrev pub nothing : Part
 nothing = record { offset = 0; bytes = [] }
 
 abbrev pub shown : Option Part → View
-shown none = record { verdict = verdict_of (Broken (outright NoElement)); part = nothing }
-shown (some p) = record { verdict = verdict_of Fine; part = p }
+shown none = record { verdict = verdict_of (Err (outright NoElement)); part = nothing }
+shown (some p) = record { verdict = verdict_of (Ok tt); part = p }
 
 abbrev pub view_of : ℕ → Parsed Part → ℕ → View
 view_of kind (values ps) element = shown (part_of (table kind) ps element)
-view_of kind (fault f) element = record { verdict = verdict_of (Broken f); part = nothing }
+view_of kind (fault f) element = record { verdict = verdict_of (Err f); part = nothing }
 
 unfoldable pub viewed : ℕ → ℕ → List ℕ → ℕ → View
-viewed kind today c element = view_of kind (located kind today c) element
+viewed kind today c element = view_of kind (read kind today c) element
+
+-- what the code answers: the verdict, and from where to where the part lies
+pub record Located : Type 0 where
+  pub verdict : Verdict
+  pub from : ℕ
+  pub to : ℕ
+
+abbrev pub located : Result (Range ℕ) Finding → Located
+located (Ok r) = record { verdict = verdict_of (Ok tt); from = r.start; to = r.end }
+located (Err f) = record { verdict = verdict_of (Err f); from = 0; to = 0 }
 
 -- the same in numbers, of the bytes c: from where to where the part lies. The last two follow from the others; they stand here so that a caller finds them
 pub record Locates (v : View) (c : List ℕ) (r : Located) : Type 0 where

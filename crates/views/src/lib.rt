@@ -3,76 +3,46 @@
 
 ghost use Rattle.std.specs.Prelude.{◌≡◌};
 ghost use Rattle.kinds.specs.Tables.{row_of};
-ghost use Rattle.views.specs.ByMap.{absence, by_map};
-ghost use Rattle.views.specs.Views.{viewed, Locates, Answers};
+ghost use Rattle.views.specs.ByMap.{by_map};
+ghost use Rattle.views.specs.Views.{viewed, located, Locates, Answers};
 
-use container::Map;
-use kinds::Row;
-use verdicts::{Outcome, Tag, Verdict};
+use container::Span;
+use std::ops::Range;
+use verdicts::{Fault, Finding, Verdict};
 
-// What a view comes to: the verdict, and where the part lies in the container.
-#[derive(Clone, Copy)]
-pub struct Located {
-    pub verdict: Verdict,
-    pub from: usize,
-    pub to: usize,
-}
-
-// No such element: 6.
-fn absent() -> Located
-    ensures { result ≡ absence }
+// Where the value of the tag's row lies; None where the element is absent or the tag is not of the kind.
+fn by_map(kind: u64, element: u64, rows: &[Span; 16]) -> Option<Range<usize>>
+    ensures { result ≡ by_map (row_of kind element) rows.now }
 {
-    Located {
-        verdict: Verdict {
-            number: 6,
-            place: 0,
-            tag: Tag::NoTag,
-        },
-        from: 0,
-        to: 0,
+    let row = kinds::row_of(kind, element)?;
+    let Span { from, to } = rows[(row.index - 1) as usize];
+    if to == 0 {
+        return None;
     }
+    Some(from as usize..to as usize)
 }
 
-// What the map has of the tag's row: 6 where the element is absent or the tag is not of the kind; or 0 and where the value lies.
-fn by_map(kind: u64, element: u64, map: Map) -> Located
-    ensures { result ≡ by_map (row_of kind element) map.from map.to }
+// "View: check, then 6." Where the part lies in the container.
+#[tactic(auto, using(crate::proofs::Ways::out_broken))]
+pub fn locate(
+    kind: u64,
+    today: u64,
+    container: &[u8],
+    element: u64,
+) -> Result<Range<usize>, Finding>
+    ensures { Locates (viewed kind today container.now element) container.now (located result) }
 {
-    match kinds::row_of(kind, element) {
-        Row::Missing => absent(),
-        Row::At(index, _, _, _, _, _) => {
-            let froms = map.from;
-            let tos = map.to;
-            let row = (index - 1) as usize;
-            let to = tos[row] as usize;
-            if to == 0 {
-                return absent();
-            }
-            Located {
-                verdict: Verdict {
-                    number: 0,
-                    place: 0,
-                    tag: Tag::NoTag,
-                },
-                from: froms[row] as usize,
-                to: to,
-            }
-        }
-    }
+    let read = container::judge(kind, today, container)?;
+    by_map(kind, element, &read.rows.spans).ok_or(Fault::NoElement.into())
 }
 
-// "View: check, then 6." The check's verdict, or what the map has. A refused part is empty and stands at the container's start.
-pub fn locate(kind: u64, today: u64, container: &[u8], element: u64) -> Located
-    ensures { Locates (viewed kind today container.now element) container.now result }
+// The verdict, and from where to where the part lies. A refused part is empty and stands at the container's start.
+pub fn told(part: Result<Range<usize>, Finding>) -> (Verdict, Range<usize>)
+    ensures { (result.0 ≡ (located part).verdict) × (result.1.start ≡ (located part).from) × (result.1.end ≡ (located part).to) }
 {
-    let map = container::judge(kind, today, container);
-    let outcome = map.outcome;
-    match outcome {
-        Outcome::Broken(_) => Located {
-            verdict: verdicts::verdict_of(outcome),
-            from: 0,
-            to: 0,
-        },
-        Outcome::Fine => by_map(kind, element, map),
+    match part {
+        Ok(part) => (Verdict::CONFORMS, part),
+        Err(f) => (f.into(), 0..0),
     }
 }
 
@@ -88,13 +58,9 @@ pub fn view<'a>(
 ) -> &'a [u8]
     ensures { Answers (viewed kind today container.now element) container.entry.ref_ptr number.new place.new tag.new result.ref_ptr result.now }
 {
-    let part = locate(kind, today, container, element);
-    let verdict = part.verdict;
-    let there = verdict.tag;
+    let (verdict, part) = told(locate(kind, today, container, element));
     *number = verdict.number;
     *place = verdict.place;
-    *tag = verdicts::tag_number(there);
-    let from = part.from;
-    let to = part.to;
-    &container[from..to]
+    *tag = verdicts::tag_number(verdict.tag);
+    &container[part]
 }

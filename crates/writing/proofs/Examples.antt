@@ -10,8 +10,8 @@ use Rattle.rules.specs.Rules.{application, rule_of}
 use Rattle.verdicts.specs.Verdicts.{outright, found}
 use Rattle.verdicts.specs.Output.{refusal, text}
 use Rattle.verdicts.specs.declared.Fault.TheVariants.{UnknownKind, NoDate, SmallRoom, TornSheet, MissingRow, ElementLength, BadFixed}
-use Rattle.verdicts.specs.declared.Tag.TheVariants.{Of}
 use Rattle.writing.specs.Writing.{write_output}
+use Rattle.std.specs.Prelude.{Some}
 
 -- the application, 11 bytes, and a policy
 abbrev policy : ℕ → List ℕ
@@ -30,16 +30,16 @@ unfolding write_output length_bytes rule_of is_date exists days_in is_policy
 small_room = refl
 
 -- 20 with the place of the row's count and the row's tag
-pub p14 : write_output 3 20260301 (0x00 ∷ 0x0C ∷ application ++ policy 0x60) 20 ≡ refusal (found BadFixed 13 (Of 0x5F2F))
+pub p14 : write_output 3 20260301 (0x00 ∷ 0x0C ∷ application ++ policy 0x60) 20 ≡ refusal (found BadFixed 13 (Some 0x5F2F))
 unfolding write_output rule_of is_date exists days_in is_policy
 p14 = refl
 
 -- 15, with the tag of the row that is missing, and 16
-pub absent : write_output 3 20260301 (0x00 ∷ 0x0C ∷ application ++ (0x00 ∷ 0x00 ∷ [])) 20 ≡ refusal (found MissingRow 13 (Of 0x5F2F))
+pub absent : write_output 3 20260301 (0x00 ∷ 0x0C ∷ application ++ (0x00 ∷ 0x00 ∷ [])) 20 ≡ refusal (found MissingRow 13 (Some 0x5F2F))
 unfolding write_output rule_of is_date exists days_in is_policy
 absent = refl
 
-pub long : write_output 3 20260301 (0x00 ∷ 0x0D ∷ application ++ (0x00 ∷ policy 0x40)) 20 ≡ refusal (found ElementLength 0 (Of 0x4F))
+pub long : write_output 3 20260301 (0x00 ∷ 0x0D ∷ application ++ (0x00 ∷ policy 0x40)) 20 ≡ refusal (found ElementLength 0 (Some 0x4F))
 unfolding write_output rule_of is_date exists days_in is_policy
 long = refl
 

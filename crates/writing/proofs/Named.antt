@@ -16,16 +16,11 @@ use Rattle.dates.proofs.Dates.{date-exact}
 use Rattle.kinds.specs.Tables.{Entry, Table, table, permitted, IsKind, is_kind}
 use Rattle.rules.specs.Rules.{rule_of}
 use Rattle.rules.proofs.Exact.{broken-exact}
-use Rattle.verdicts.specs.Verdicts.{found}
+use Rattle.verdicts.specs.Verdicts.{Outcome, Ruling, found}
 use Rattle.verdicts.proofs.Apart.{untagged}
 use Rattle.verdicts.specs.Output.{refusal}
 use Rattle.verdicts.specs.declared.Fault.{Fault}
-use Rattle.verdicts.specs.declared.Tag.TheVariants.{Of}
 use Rattle.verdicts.specs.declared.Finding.{Finding}
-use Rattle.verdicts.specs.declared.Ruling.{Ruling}
-use Rattle.verdicts.specs.declared.Ruling.TheVariants.{Kept, Breaks}
-use Rattle.verdicts.specs.declared.Outcome.{Outcome}
-use Rattle.verdicts.specs.declared.Outcome.TheVariants.{Fine, Broken}
 use Rattle.container.specs.Container.{Values, container, Allowed, largest}
 use Rattle.container.proofs.One.{permitted-exact, good-fits, fits-good}
 use Rattle.container.proofs.Promise.{kind-exact}
@@ -38,12 +33,13 @@ use Rattle.writing.specs.Writing.{sized_out, judged_out, opened_out, write_outpu
 use Rattle.writing.specs.InOrder.{Unfit, no_value, not_permitted, bad_value, FirstRow, Refused, no_kind, no_date, torn, in_row, too_large, small_room}
 use Rattle.writing.proofs.Sheets.{opened-exact, sheet_values}
 use Rattle.writing.proofs.Promise.{no-fine, judged-exact, no_text}
+use Rattle.std.specs.Prelude.{Some, Ok, Err}
 
 -- ---- the rows
 
 module _ (today : ℕ) (f : Finding) where
   -- the first row
-  here : (r : Entry) (rs : Table) (at : ℕ) (o : Option (List ℕ)) (vs : Values) {g : Fault} → Unfit today r o g → f ≡ found g at (Of r.tag)
+  here : (r : Entry) (rs : Table) (at : ℕ) (o : Option (List ℕ)) (vs : Values) {g : Fault} → Unfit today r o g → f ≡ found g at (Some r.tag)
       → FirstRow today (r ∷ rs) at (o ∷ vs) f
   unfolding sheet_of
   here r rs at o vs u e =
@@ -92,15 +88,15 @@ module _ (today : ℕ) (f : Finding) where
   unfolding sheet_of
   past-some at v ws = omega (arith, length-append v (sheet_of ws))
 
-  finding-is : {g : Finding} → Broken g ≡ Broken f → f ≡ g
+  finding-is : {g : Finding} → ◌≡◌ {A = Outcome} (Err g) (Err f) → f ≡ g
   finding-is e = cc
 
-  ruled : (x : Ruling) (at tag : ℕ) (next : Outcome) → kept_or x at tag next ≡ Broken f → {P : Type 0} → (x ≡ Kept → next ≡ Broken f → P)
-      → ((g : Fault) → x ≡ Breaks g → f ≡ found g at (Of tag) → P) → P
-  ruled Kept at tag next e on stop = on refl e
-  ruled (Breaks g) at tag next e on stop = stop g refl (finding-is e)
+  ruled : (x : Ruling) (at tag : ℕ) (next : Outcome) → kept_or x at tag next ≡ Err f → {P : Type 0} → (x ≡ (Ok tt) → next ≡ Err f → P)
+      → ((g : Fault) → x ≡ Err g → f ≡ found g at (Some tag) → P) → P
+  ruled (Ok _) at tag next e on stop = on refl e
+  ruled (Err g) at tag next e on stop = stop g refl (finding-is e)
 
-  first-row : (rows : Table) (vs : Values) (at : ℕ) → AllBytes vs → Sheeted rows vs → judged today rows vs at ≡ Broken f → FirstRow today rows at vs f
+  first-row : (rows : Table) (vs : Values) (at : ℕ) → AllBytes vs → Sheeted rows vs → judged today rows vs at ≡ Err f → FirstRow today rows at vs f
   first-row [] vs at b h e = absurd (no-fine (sym e))
   first-row (r ∷ rs) [] at b h e = absurd h
   first-row (r ∷ rs) (none ∷ vs) at b h e =
@@ -120,7 +116,7 @@ module _ (today : ℕ) (f : Finding) where
 
   -- and back
   unfit-judged : (r : Entry) (rs : Table) (o : Option (List ℕ)) (vs : Values) (at : ℕ) → AllBytes (o ∷ vs) → Unfit today r o f.fault
-      → judged today (r ∷ rs) (o ∷ vs) at ≡ Broken (found f.fault at (Of r.tag))
+      → judged today (r ∷ rs) (o ∷ vs) at ≡ Err (found f.fault at (Some r.tag))
   unfit-judged r rs o vs at b (no_value e n m) = rw (e, n, m)
   unfit-judged r rs none vs at b (not_permitted v e n m) = let z : ◌≡◌ {A = ℕ} 0 1 = cc in absurd (omega arith)
   unfit-judged r rs (some u) vs at b (not_permitted v e n m) =
@@ -132,7 +128,7 @@ module _ (today : ℕ) (f : Finding) where
       rw ((permitted-exact r.lengths (length u)).1 (rw q at p), (broken-exact r.rule today u b.0 f.fault).1 (rw q at m))
 
   row-judged : (bs : Table) (r : Entry) (rs : Table) (us : Values) (o : Option (List ℕ)) (vs : Values) (at : ℕ) → AllBytes (us ++ (o ∷ vs)) → Allowed today bs us
-      → Unfit today r o f.fault → judged today (bs ++ (r ∷ rs)) (us ++ (o ∷ vs)) at ≡ Broken (found f.fault (at + length (sheet_of us)) (Of r.tag))
+      → Unfit today r o f.fault → judged today (bs ++ (r ∷ rs)) (us ++ (o ∷ vs)) at ≡ Err (found f.fault (at + length (sheet_of us)) (Some r.tag))
   unfolding sheet_of
   row-judged [] r rs [] o vs at b a w = let z : at + 0 ≡ at = omega arith in rw z (unfit-judged r rs o vs at b w)
   row-judged [] r rs (x ∷ us) o vs at b a w = absurd a
@@ -168,8 +164,8 @@ module _ (kind today : ℕ) (s : List ℕ) (room : ℕ) (b : Bytes s) (f : Findi
         v = sheet_values vs (rw i.written at b)
 
         go : (o : Outcome) → judged today (table kind) vs 0 ≡ o → judged_out o (container kind vs) room ≡ refusal f → Refused kind today s room f
-        go Fine q z = sized vs i ((judged-exact today (table kind) vs 0 v i.sections).0 q) z
-        go (Broken g) q z = let x : f ≡ g = refusal_is z in in_row k d vs i (first-row today f (table kind) vs 0 v i.sections (rw x q))
+        go (Ok _) q z = sized vs i ((judged-exact today (table kind) vs 0 v i.sections).0 q) z
+        go (Err g) q z = let x : f ≡ g = refusal_is z in in_row k d vs i (first-row today f (table kind) vs 0 v i.sections (rw x q))
 
     by-sheet : (o : Option Values) → opened (table kind) s ≡ o → opened_out kind today o room ≡ refusal f → Refused kind today s room f
     by-sheet none q e = torn k d (λ vs i. let z : ◌≡◌ {A = ℕ} 0 1 = (let y = sym q ∙ (opened-exact (table kind) s b vs).1 i in cc) in omega arith) (refusal_is e)
@@ -203,13 +199,13 @@ module _ (kind today : ℕ) (s : List ℕ) (room : ℕ) (b : Bytes s) (f : Findi
       go (some vs) q = absurd (h vs ((opened-exact (table kind) s b vs).0 q))
 
   -- the row's finding is what the rows come to
-  in-row-judged : (vs : Values) → IsSheet (table kind) vs s → FirstRow today (table kind) 0 vs f → judged today (table kind) vs 0 ≡ Broken f
+  in-row-judged : (vs : Values) → IsSheet (table kind) vs s → FirstRow today (table kind) 0 vs f → judged today (table kind) vs 0 ≡ Err f
   in-row-judged vs i w =
       let v : AllBytes (w.values_before ++ (w.value ∷ w.values_after)) = rw w.values_are at (sheet_values vs (rw i.written at b)) in
       rw (w.rows_are, w.values_are) (row-judged today f w.before w.row w.after w.values_before w.value w.values_after 0 v w.allowed w.unfit)
-      ∙ sym (λ j. Broken (record { fault = f.fault; place = w.place_is j; tag = w.tag_is j }))
+      ∙ sym (λ j. Err (record { fault = f.fault; place = w.place_is j; tag = w.tag_is j }))
 
-  fine : (vs : Values) → IsSheet (table kind) vs s → Allowed today (table kind) vs → judged today (table kind) vs 0 ≡ Fine
+  fine : (vs : Values) → IsSheet (table kind) vs s → Allowed today (table kind) vs → judged today (table kind) vs 0 ≡ (Ok tt)
   fine vs i a = (judged-exact today (table kind) vs 0 (sheet_values vs (rw i.written at b)) i.sections).1 a
 
   refused-back : Refused kind today s room f → write_output kind today s room ≡ refusal f
@@ -226,7 +222,7 @@ pub refused-exact : (kind today : ℕ) (s : List ℕ) (room : ℕ) → Bytes s �
 refused-exact kind today s room b f = (refused-there kind today s room b f, refused-back kind today s room b f)
 
 -- the tag that it carries is one of the table's, of one byte or two
-pub row-tag : (kind today : ℕ) (s : List ℕ) (room : ℕ) (f : Finding) → Refused kind today s room f → (t : ℕ) → f.tag ≡ Of t → t < 65536
+pub row-tag : (kind today : ℕ) (s : List ℕ) (room : ℕ) (f : Finding) → Refused kind today s room f → (t : ℕ) → f.tag ≡ Some t → t < 65536
 row-tag kind today s room f (no_kind h e) t g = absurd (untagged e g)
 row-tag kind today s room f (no_date k h e) t g = absurd (untagged e g)
 row-tag kind today s room f (torn k d h e) t g = absurd (untagged e g)

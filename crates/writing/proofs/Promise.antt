@@ -18,10 +18,6 @@ use Rattle.kinds.specs.Tables.{Table, table, permitted, is_kind}
 use Rattle.rules.specs.Rules.{rule_of}
 use Rattle.verdicts.specs.Output.{refusal, text}
 use Rattle.verdicts.specs.declared.Finding.{Finding}
-use Rattle.verdicts.specs.declared.Ruling.{Ruling}
-use Rattle.verdicts.specs.declared.Ruling.TheVariants.{Kept, Breaks}
-use Rattle.verdicts.specs.declared.Outcome.{Outcome}
-use Rattle.verdicts.specs.declared.Outcome.TheVariants.{Fine, Broken}
 use Rattle.container.specs.Container.{Values, container, Allowed, largest, Conforms}
 use Rattle.container.proofs.One.{good-fits, fits-good}
 use Rattle.container.proofs.Promise.{kind-exact}
@@ -31,17 +27,19 @@ use Rattle.sheet.proofs.Sheets.{conforming-sheet, conforming-sheet-bytes}
 use Rattle.sections.specs.Opened.{opened, kept_or, judged}
 use Rattle.writing.specs.Writing.{roomy, sized_out, judged_out, opened_out, write_output}
 use Rattle.writing.proofs.Sheets.{opened-exact, sheet_values, container-bytes}
+use Rattle.std.specs.Prelude.{Ok, Err}
+use Rattle.verdicts.specs.Verdicts.{Outcome, Ruling}
 
 -- ---- nothing is broken exactly where the values are allowed
 
-pub no-fine : {f : Finding} → Broken f ≡ Fine → ⊥
+pub no-fine : {f : Finding} → ◌≡◌ {A = Outcome} (Err f) (Ok tt) → ⊥
 no-fine e = let z : ◌≡◌ {A = ℕ} 0 1 = cc in omega arith
 
-kept_fine : (x : Ruling) (at tag : ℕ) (later : Outcome) → kept_or x at tag later ≡ Fine → (x ≡ Kept) × (later ≡ Fine)
-kept_fine Kept at tag later e = (refl, e)
-kept_fine (Breaks f) at tag later e = absurd (no-fine e)
+kept_fine : (x : Ruling) (at tag : ℕ) (later : Outcome) → kept_or x at tag later ≡ (Ok tt) → (x ≡ (Ok tt)) × (later ≡ (Ok tt))
+kept_fine (Ok _) at tag later e = (refl, e)
+kept_fine (Err f) at tag later e = absurd (no-fine e)
 
-fine-allowed : (today : ℕ) (rows : Table) (vs : Values) (at : ℕ) → AllBytes vs → Sheeted rows vs → judged today rows vs at ≡ Fine → Allowed today rows vs
+fine-allowed : (today : ℕ) (rows : Table) (vs : Values) (at : ℕ) → AllBytes vs → Sheeted rows vs → judged today rows vs at ≡ (Ok tt) → Allowed today rows vs
 fine-allowed today [] [] at b h e = tt
 fine-allowed today [] (o ∷ vs) at b h e = absurd h
 fine-allowed today (r ∷ rs) [] at b h e = absurd h
@@ -58,7 +56,7 @@ fine-allowed today (r ∷ rs) (some v ∷ vs) at b h e =
       | inr p ↦ absurd (no-fine (rw p at e))
     ]
 
-allowed-fine : (today : ℕ) (rows : Table) (vs : Values) (at : ℕ) → AllBytes vs → Allowed today rows vs → judged today rows vs at ≡ Fine
+allowed-fine : (today : ℕ) (rows : Table) (vs : Values) (at : ℕ) → AllBytes vs → Allowed today rows vs → judged today rows vs at ≡ (Ok tt)
 allowed-fine today [] [] at b a = refl
 allowed-fine today [] (o ∷ vs) at b a = absurd a
 allowed-fine today (r ∷ rs) [] at b a = absurd a
@@ -67,7 +65,7 @@ allowed-fine today (r ∷ rs) (some v ∷ vs) at b a =
     let g = fits-good today r v b.0 a.0 in
     rw (g.0, g.1) (allowed-fine today rs vs (at + 2 + length v) b.1 a.1)
 
-pub judged-exact : (today : ℕ) (rows : Table) (vs : Values) (at : ℕ) → AllBytes vs → Sheeted rows vs → (judged today rows vs at ≡ Fine) ↔ Allowed today rows vs
+pub judged-exact : (today : ℕ) (rows : Table) (vs : Values) (at : ℕ) → AllBytes vs → Sheeted rows vs → (judged today rows vs at ≡ (Ok tt)) ↔ Allowed today rows vs
 judged-exact today rows vs at b h = (fine-allowed today rows vs at b h, allowed-fine today rows vs at b)
 
 -- ---- a sheet is accepted, and written as c, exactly where it is the sheet of values that c is the container of, and c goes into the room
@@ -95,9 +93,9 @@ sized-is t room c e =
 sized-fits : (t : List ℕ) (room : ℕ) → length t ≤ largest → length t ≤ room → sized_out t room ≡ text t
 sized-fits t room h k = rw (le-leb _ _ h) (roomy-fits t room k)
 
-judged-is : (o : Outcome) (t : List ℕ) (room : ℕ) (c : List ℕ) → judged_out o t room ≡ text c → (o ≡ Fine) × (sized_out t room ≡ text c)
-judged-is Fine t room c e = (refl, e)
-judged-is (Broken f) t room c e = absurd (no_text e)
+judged-is : (o : Outcome) (t : List ℕ) (room : ℕ) (c : List ℕ) → judged_out o t room ≡ text c → (o ≡ (Ok tt)) × (sized_out t room ≡ text c)
+judged-is (Ok _) t room c e = (refl, e)
+judged-is (Err f) t room c e = absurd (no_text e)
 
 opened-is : (kind today : ℕ) (o : Option Values) (room : ℕ) (c : List ℕ) → opened_out kind today o room ≡ text c
     → (vs : Values) × (o ≡ some vs) × (judged_out (judged today (table kind) vs 0) (container kind vs) room ≡ text c)

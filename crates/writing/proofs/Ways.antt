@@ -1,75 +1,69 @@
--- What `write` answers, by what is planned. Assumes nothing.
-use Prim.Native.Nat.{ℕ, ◌≤◌}
-use mathlib.Core.Path.{◌≡◌, refl, ◌∙◌}
+-- What `write` answers, by what is planned and held against the room. Assumes nothing.
+use Rattle.std.proofs.Common.{ℕ, List, ◌≡◌, ◌≤◌, refl, length, arith, Ok, Err, Result}
 use mathlib.Core.Logic.{inl, inr}
 use mathlib.Core.Option.{Option, none, some}
-use mathlib.Core.List.{List}
-use native.Mathlib.Omega.{arith}
 use lib.Dec.{ltb}
-use lib.ListN.{length, length-append}
+use lib.ListN.{length-append}
 use borrow.Author.Tests.{le-leb, lt-leb, ltb-true, ltb-false}
 use Rattle.laws.proofs.Cases.{which}
 use Rattle.dates.specs.Date.{is_date}
 use Rattle.kinds.specs.Tables.{table, is_kind}
 use Rattle.lengths.specs.Length.{length_bytes}
-use Rattle.verdicts.specs.Verdicts.{outright}
+use Rattle.verdicts.specs.Verdicts.{Outcome}
 use Rattle.verdicts.specs.Output.{Output, refusal, text}
-use Rattle.verdicts.specs.declared.Fault.TheVariants.{TornSheet}
-use Rattle.verdicts.specs.declared.Outcome.{Outcome}
-use Rattle.verdicts.specs.declared.Outcome.TheVariants.{Fine, Broken}
+use Rattle.verdicts.specs.declared.Finding.{Finding}
 use Rattle.container.specs.Container.{Values, encode, container, largest}
 use Rattle.sections.specs.Opened.{opened, judged}
 use Rattle.sections.specs.Passes.{plan_of, opened_plan, plan_for}
-use Rattle.sections.specs.declared.Plan.{Plan}
-use Rattle.sections.specs.declared.Plan.TheVariants.{Refuse, Takes}
 use Rattle.writing.specs.Writing.{sized_out, judged_out, opened_out, write_output}
 use Rattle.writing.specs.Passes.{boxed, box_size, fitted}
 
 module _ (kind today : ℕ) (s : List ℕ) (room : ℕ) where
-  -- a plan for a sheet that opens to some values, or to none
-  abbrev out_of : Plan → Option Values → Output
-  out_of (Refuse f) o = refusal f
-  out_of (Takes n) none = refusal (outright TornSheet)
-  out_of (Takes n) (some vs) = sized_out (boxed kind n vs) room
+  -- what it says that a plan fits a room, or does not: of an output, for a sheet that opens to some values or to none
+  abbrev Tells : Result ℕ Finding → Output → Option Values → Type 0
+  Tells (Err f) out o = out ≡ refusal f
+  Tells (Ok n) out o = (vs : Values) → o ≡ some vs → (out ≡ text (boxed kind n vs)) × (length (boxed kind n vs) ≤ room)
 
-  by-plan : write_output kind today s room ≡ out_of (plan_for kind today s) (opened (table kind) s)
+  same_values : (n : ℕ) {vs ws : Values} → length (boxed kind n vs) ≤ room → some vs ≡ some ws → (text (boxed kind n vs) ≡ text (boxed kind n ws)) × (length (boxed kind n ws) ≤ room)
+  same_values n {vs = vs} {ws = ws} h e = let z : vs ≡ ws = cc in rw (← z) (refl, h)
+
+  -- 4, 3
+  sizing : (vs : Values) → Tells (fitted (Ok (length (encode (table kind) vs))) room) (sized_out (container kind vs) room) (some vs)
+  sizing vs =
+      let n = length (encode (table kind) vs) in
+      let long : length (boxed kind n vs) ≡ box_size n = omega (arith, length-append (length_bytes n) (encode (table kind) vs)) in
+      elim (which (ltb largest (box_size n))) [
+        | inl g ↦ rw (long, g, lt-leb _ _ (ltb-true _ _ g)) refl
+        | inr g ↦
+            elim (which (ltb room (box_size n))) [
+              | inl r ↦ rw (long, g, r, le-leb _ _ (ltb-false _ _ g)) refl
+              | inr r ↦ rw (long, g, r, le-leb _ _ (ltb-false _ _ g)) (λ ws e. same_values n (rw long (ltb-false _ _ r)) e)
+            ]
+      ]
+
+  opening : (o : Option Values) → Tells (fitted (opened_plan kind today o) room) (opened_out kind today o room) o
+  opening none = refl
+  opening (some vs) = go (judged today (table kind) vs 0)
+    where
+      go : (j : Outcome) → Tells (fitted (plan_of j (length (encode (table kind) vs))) room) (judged_out j (container kind vs) room) (some vs)
+      go (Ok _) = sizing vs
+      go (Err f) = refl
+
+  tells : Tells (fitted (plan_for kind today s) room) (write_output kind today s room) (opened (table kind) s)
   unfolding write_output plan_for
-  by-plan =
+  tells =
       elim (which (is_kind kind)) [
         | inl k ↦
             elim (which (is_date today)) [
-              | inl d ↦ rw (k, d) (go (opened (table kind) s))
-              | inr d ↦ rw (k, d)
+              | inl d ↦ rw (k, d) (opening (opened (table kind) s))
+              | inr d ↦ rw (k, d) refl
             ]
-        | inr k ↦ rw k
+        | inr k ↦ rw k refl
       ]
-    where
-      judging : (vs : Values) (j : Outcome) → judged_out j (container kind vs) room ≡ out_of (plan_of j (length (encode (table kind) vs))) (some vs)
-      judging vs Fine = refl
-      judging vs (Broken f) = refl
 
-      go : (o : Option Values) → opened_out kind today o room ≡ out_of (opened_plan kind today o) o
-      go none = refl
-      go (some vs) = judging vs (judged today (table kind) vs 0)
+  pub refused : {f : Finding} → Err f ≡ fitted (plan_for kind today s) room → write_output kind today s room ≡ refusal f
+  refused e = rw (← e) at tells
 
-  module _ (vs : Values) where
-    -- what a plan says that the room was held against: 4, 3
-    abbrev pub Answer : Plan → Type 0
-    Answer (Refuse f) = write_output kind today s room ≡ refusal f
-    Answer (Takes n) = (write_output kind today s room ≡ text (boxed kind n vs)) × (length (boxed kind n vs) ≤ room)
-
-    fits : (n : ℕ) → write_output kind today s room ≡ sized_out (boxed kind n vs) room → n ≡ length (encode (table kind) vs) → Answer (fitted (Takes n) room)
-    fits n e l =
-        let long : length (boxed kind n vs) ≡ box_size n = omega (arith, length-append (length_bytes n) (encode (table kind) vs)) in
-        elim (which (ltb largest (box_size n))) [
-          | inl g ↦ rw g (e ∙ rw (long, lt-leb _ _ (ltb-true _ _ g)))
-          | inr g ↦
-              elim (which (ltb room (box_size n))) [
-                | inl r ↦ rw (g, r) (e ∙ rw (long, le-leb _ _ (ltb-false _ _ g), r))
-                | inr r ↦ rw (g, r) (e ∙ rw (long, le-leb _ _ (ltb-false _ _ g), r), rw long (ltb-false _ _ r))
-              ]
-        ]
-
-    pub answered : (p : Plan) → p ≡ plan_for kind today s → ((n : ℕ) → p ≡ Takes n → (opened (table kind) s ≡ some vs) × (n ≡ length (encode (table kind) vs))) → Answer (fitted p room)
-    answered (Refuse f) e h = by-plan ∙ rw (← e)
-    answered (Takes n) e h = let o = h n refl in fits n (by-plan ∙ rw (← e, o.0)) o.1
+  pub written : {n : ℕ} {vs : Values} → Ok n ≡ fitted (plan_for kind today s) room → opened (table kind) s ≡ some vs
+      → (write_output kind today s room ≡ text (boxed kind n vs)) × (length (boxed kind n vs) ≤ room)
+  written {n} {vs} e o = let t : Tells (Ok n) (write_output kind today s room) (opened (table kind) s) = rw (← e) at tells in t vs o

@@ -8,10 +8,10 @@ use Rattle.rules.specs.Rules.{Violates}
 use Rattle.verdicts.specs.Verdicts.{outright}
 use Rattle.verdicts.specs.declared.Fault.{Fault}
 use Rattle.verdicts.specs.declared.Fault.TheVariants.{UnknownKind, NoDate, SmallRoom, LargeContainer, TornSheet, MissingRow, ElementLength}
-use Rattle.verdicts.specs.declared.Tag.TheVariants.{Of}
 use Rattle.verdicts.specs.declared.Finding.{Finding}
 use Rattle.container.specs.Container.{Values, container, Allowed, largest}
 use Rattle.sheet.specs.Sheet.{sheet_of, IsSheet}
+use Rattle.std.specs.Prelude.{Some}
 
 -- "15, 16 and the value's rules": what is wrong with what a row has. It has no value and is mandatory; or one that may not be so long; or one that may, and
 -- that breaks its rule
@@ -34,7 +34,7 @@ pub record FirstRow (today : ℕ) (rows : Table) (at : ℕ) (vs : Values) (f : F
   pub allowed : Allowed today before values_before
   pub unfit : Unfit today row value f.fault
   pub place_is : f.place ≡ at + length (sheet_of values_before)
-  pub tag_is : f.tag ≡ Of row.tag
+  pub tag_is : f.tag ≡ Some row.tag
 
 -- the first broken rule of the sheet s, with a room of so many bytes for its container: its place and its tag
 pub data Refused (kind today : ℕ) (s : List ℕ) (room : ℕ) (f : Finding) : Type 0 where

@@ -1,12 +1,11 @@
 -- What is written, as the code does it. Nothing of 01 is said here; `proofs/` ties it to `Writing`.
-use Rattle.std.specs.Prelude.{ℕ, ◌+◌, cond, List, ◌∷◌, ◌++◌, ltb, length}
+use Rattle.std.specs.Prelude.{ℕ, ◌+◌, cond, List, ◌∷◌, ◌++◌, ltb, length, Result, Ok, Err}
 use Rattle.lengths.specs.Length.{length_bytes}
 use Rattle.kinds.specs.Tables.{table}
 use Rattle.verdicts.specs.Verdicts.{outright}
 use Rattle.verdicts.specs.declared.Fault.TheVariants.{LargeContainer, SmallRoom}
 use Rattle.container.specs.Container.{Values, tag_bytes, encode, outer_tag, largest}
-use Rattle.sections.specs.declared.Plan.{Plan}
-use Rattle.sections.specs.declared.Plan.TheVariants.{Refuse, Takes}
+use Rattle.verdicts.specs.declared.Finding.{Finding}
 
 -- ---- an element, and the container of values whose elements take n bytes
 
@@ -20,9 +19,9 @@ boxed kind n vs = outer_tag kind ∷ (length_bytes n ++ encode (table kind) vs)
 abbrev pub box_size : ℕ → ℕ
 box_size n = 1 + length (length_bytes n) + n
 
-abbrev pub fitted : Plan → ℕ → Plan
-fitted (Refuse f) room = Refuse f
-fitted (Takes n) room =
-    cond (ltb largest (box_size n)) (Refuse (outright LargeContainer))
-    (cond (ltb room (box_size n)) (Refuse (outright SmallRoom))
-    (Takes n))
+abbrev pub fitted : Result ℕ Finding → ℕ → Result ℕ Finding
+fitted (Err f) room = Err f
+fitted (Ok n) room =
+    cond (ltb largest (box_size n)) (Err (outright LargeContainer))
+    (cond (ltb room (box_size n)) (Err (outright SmallRoom))
+    (Ok n))

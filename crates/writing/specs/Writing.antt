@@ -3,13 +3,12 @@ use Rattle.std.specs.Prelude.{ℕ, cond, List, leb, ltb, length}
 use Rattle.std.proofs.Math.Option.{Option, none, some}
 use Rattle.kinds.specs.Tables.{table, is_kind}
 use Rattle.dates.specs.Date.{is_date}
-use Rattle.verdicts.specs.Verdicts.{outright}
+use Rattle.verdicts.specs.Verdicts.{Outcome, outright}
 use Rattle.verdicts.specs.Output.{Output, refusal, text}
 use Rattle.verdicts.specs.declared.Fault.TheVariants.{UnknownKind, NoDate, SmallRoom, LargeContainer, TornSheet}
-use Rattle.verdicts.specs.declared.Outcome.{Outcome}
-use Rattle.verdicts.specs.declared.Outcome.TheVariants.{Fine, Broken}
 use Rattle.container.specs.Container.{Values, container, largest}
 use Rattle.sections.specs.Opened.{opened, judged}
+use Rattle.std.specs.Prelude.{Ok, Err}
 
 -- ---- the whole
 
@@ -21,8 +20,8 @@ abbrev pub sized_out : List ℕ → ℕ → Output
 sized_out c room = cond (leb (length c) largest) (roomy c room) (refusal (outright LargeContainer))
 
 abbrev pub judged_out : Outcome → List ℕ → ℕ → Output
-judged_out Fine c room = sized_out c room
-judged_out (Broken f) c room = refusal f
+judged_out (Ok _) c room = sized_out c room
+judged_out (Err f) c room = refusal f
 
 abbrev pub opened_out : ℕ → ℕ → Option Values → ℕ → Output
 opened_out kind today none room = refusal (outright TornSheet)

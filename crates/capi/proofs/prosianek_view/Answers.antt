@@ -7,11 +7,15 @@ use Rattle.capi.proofs.prosianek_view.Goals as goal
 
 pub returns : goal.returns
 returns c =
-    let l = c.locate-part.ensures in
+    let l = c.locate.ensures in
+    let t = c.told.ensures in
+    let v = t.0 ∙ l.verdict_is in
+    let s = t.1 ∙ l.from_is in
+    let e = t.2 ∙ l.to_is in
     record {
-      number_is = ap (λ (v : Verdict). v.number) l.verdict_is;
-      place_is = ap (λ (v : Verdict). v.place) l.verdict_is;
-      tag_is = c.tag_number.ensures ∙ ap (λ (v : Verdict). tag_number v.tag) l.verdict_is;
-      offset_is = l.from_is;
-      size_is = search rules;
+      number_is = c.told-2.ensures.number ∙ ap (λ (v : Verdict). v.number) v;
+      place_is = c.told-2.ensures.place ∙ ap (λ (v : Verdict). v.place) v;
+      tag_is = c.told-2.ensures.tag ∙ ap (λ (v : Verdict). tag_number v.tag) v;
+      offset_is = s;
+      size_is = rw (s, e) (search rules);
     }

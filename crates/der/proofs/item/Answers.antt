@@ -1,70 +1,54 @@
--- `der::item` meets its contract: a law of Outer for each way out. Assumes nothing.
-use Prim.Native.Nat.{ℕ}
-use mathlib.Core.Path.{◌≡◌, sym, ap, ◌∙◌}
-use mathlib.Core.List.{List}
-use native.Mathlib.Omega.{arith}
-use Rattle.heads.specs.Head.{head_of}
-use Rattle.heads.specs.declared.Head.TheVariants.{Leaf, Open}
-use Rattle.heads.proofs.Heads.{open-inside}
-use Rattle.der.specs.Walk.{judged, depth_for}
-use Rattle.der.specs.declared.Walked.{Walked}
-use Rattle.der.proofs.Outer.{no_bytes, no-level, broken-one, leaf-whole, leaf-short, open-bad, open-deep, open-whole, open-short}
+-- `der::item` meets its contract. Assumes nothing.
+use Rattle.std.proofs.Common.{ℕ, List, ◌≡◌, ◌-◌, arith, None, refl, ◌∙◌}
+use Rattle.std.proofs.lemmas.Bool.Decides.{nat_tests}
+use Rattle.std.proofs.lemmas.Result.{err_from_is_err_and}
+use Rattle.der.specs.Walk.{items, filled, outermost, ended, judged, depth_for}
+use Rattle.std.specs.Prelude.{Result}
+use Rattle.der.specs.declared.Malformed.{Malformed}
+use Rattle.der.specs.declared.Malformed.TheVariants.{Bad}
+use Rattle.der.proofs.Outer.{no_bytes, no-level, by-head, torn, followed, alone}
+use Rattle.der.proofs.Turns.{no_items}
 use Rattle.der.proofs.item.Goals as goal
-use Rattle.der.proofs.item.Goals.{After-lesser-deep, In-Leaf, In-Open}
+use Rattle.der.proofs.item.Goals.{After-front, After-parts, in-Leaf, in-Open}
 
--- the bytes, and how deep to go
-abbrev bytes : After-lesser-deep → List ℕ
-bytes m = m.args.v.now
-
-abbrev deep : After-lesser-deep → ℕ
-deep m = m.lesser-deep.result
-
-taken : (m : After-lesser-deep) {x : Walked} → x ≡ judged (deep m) (bytes m) → x ≡ judged (depth_for m.args.depth) (bytes m)
-taken m e = e ∙ ap (λ (d : ℕ). judged d (bytes m)) m.lesser-deep.ensures
-
--- the item at hand: a primitive one, or a constructed one
-leaf : (k : In-Leaf) → head_of (bytes (goal.at.In-Leaf k).After-lesser-deep) ≡ Leaf k.in-Leaf.size
-leaf k = sym k.front.ensures ∙ k.in-Leaf.is
-
-nest : (k : In-Open) → head_of (bytes (goal.at.In-Open k).After-lesser-deep) ≡ Open k.in-Open.first k.in-Open.size
-nest k = sym k.front.ensures ∙ k.in-Open.is
-
-pub returns-then-v-eq0 : goal.returns-then-v-eq0
-returns-then-v-eq0 c = no_bytes (depth_for c.args.depth) (bytes (goal.at.returns-then-v-eq0 c).After-lesser-deep) (omega arith)
+pub returns-then-is_empty : goal.returns-then-is_empty
+returns-then-is_empty c = no_bytes _ _ (grind (arith, nat_tests))
 
 pub returns-then-deep-eq0 : goal.returns-then-deep-eq0
-returns-then-deep-eq0 c = taken (goal.at.returns-then-deep-eq0 c).After-lesser-deep (no-level (deep (goal.at.returns-then-deep-eq0 c).After-lesser-deep) (bytes (goal.at.returns-then-deep-eq0 c).After-lesser-deep) (omega arith) (omega arith))
+returns-then-deep-eq0 c = no-level _ _ (grind (arith, nat_tests)) (omega arith)
 
-pub returns-then-size-v : goal.returns-then-size-v
-returns-then-size-v c =
-    taken (goal.at.returns-then-size-v c).After-lesser-deep (leaf-short (deep (goal.at.returns-then-size-v c).After-lesser-deep) (bytes (goal.at.returns-then-size-v c).After-lesser-deep) (omega arith) (omega arith) c.in-Leaf.size (leaf (goal.at.returns-then-size-v c).In-Leaf) (λ q. omega arith))
+by_front : (f : After-front) → judged (depth_for f.args.depth) f.args.v.now ≡ outermost (depth_for f.args.depth - 1) f.front.result f.args.v.now
+by_front f = rw f.front.ensures.head (by-head (depth_for f.args.depth) f.args.v.now (grind (arith, nat_tests)) (omega arith))
 
-pub parts-requires : goal.parts-requires
-parts-requires c =
-    omega (arith, c.lesser-deep.ensures, open-inside (bytes (goal.at.parts-requires c).After-lesser-deep) c.in-Open.first c.in-Open.size (nest (goal.at.parts-requires c).In-Open))
+pub returns-in_err-size : goal.returns-in_err-size
+returns-in_err-size c =
+    let p = err_from_is_err_and c.from_residual.result c.from_residual.ensures.1 in
+    let f : c.front.result ≡ None = grind arith in
+    let g : c.in_err-size.field-0.0 ≡ Bad = grind arith in
+    rw (p.1, p.2, g, by_front (goal.at.returns-in_err-size c).After-front, f) refl
 
-pub returns-then-size-v-2 : goal.returns-then-size-v-2
-returns-then-size-v-2 c =
-    taken (goal.at.returns-then-size-v-2 c).After-lesser-deep
-    (open-short (deep (goal.at.returns-then-size-v-2 c).After-lesser-deep) (bytes (goal.at.returns-then-size-v-2 c).After-lesser-deep) (omega arith) (omega arith) c.in-Open.first c.in-Open.size (nest (goal.at.returns-then-size-v-2 c).In-Open) c.in-Whole.n (sym c.in-Whole.is ∙ c.parts.ensures) (λ q. omega arith))
+-- an item stands in front, with these contents, and so many bytes are its
+stands : (k : After-parts) → judged (depth_for k.args.depth) k.args.v.now ≡ ended k.match-branch-2.size.1 k.args.v.now (items (depth_for k.args.depth - 1) k.match-branch-2.size.0.now)
+stands k =
+    by_front (goal.at.After-parts k).After-front
+    ∙ rw k.in_ok-size.ensures.ok_part
+    (elim k.match-branch-2.branch [
+      | in-Leaf w ↦ rw (w.in-Leaf.is, w.size-is, no_items) refl
+      | in-Open w ↦ rw (w.in-Open.is, w.size-is) refl
+    ])
 
-pub returns-in-Broken : goal.returns-in-Broken
-returns-in-Broken c =
-    taken (goal.at.returns-in-Broken c).After-lesser-deep (broken-one (deep (goal.at.returns-in-Broken c).After-lesser-deep) (bytes (goal.at.returns-in-Broken c).After-lesser-deep) (omega arith) (omega arith) (sym c.front.ensures ∙ c.in-Broken.is))
+to_depth : (d e : ℕ) (s : List ℕ) {r : Result (Unit {0}) Malformed} → r ≡ filled (items (d - 1) s) → d ≡ e → r ≡ filled (items (e - 1) s)
+to_depth d e s h q = rw (← q) h
 
-pub returns-else-size-v : goal.returns-else-size-v
-returns-else-size-v c =
-    taken (goal.at.returns-else-size-v c).After-lesser-deep (leaf-whole (deep (goal.at.returns-else-size-v c).After-lesser-deep) (bytes (goal.at.returns-else-size-v c).After-lesser-deep) (omega arith) (omega arith) c.in-Leaf.size (leaf (goal.at.returns-else-size-v c).In-Leaf) (omega arith))
+pub returns-in_err-parts : goal.returns-in_err-parts
+returns-in_err-parts c =
+    let p = err_from_is_err_and c.from_residual-in_err-parts.result c.from_residual-in_err-parts.ensures.1 in
+    rw (p.1, p.2, stands (goal.at.returns-in_err-parts c).After-parts) (torn _ _ _ (to_depth _ _ _ c.in_err-parts.ensures (omega arith)))
 
-pub returns-in-Bad : goal.returns-in-Bad
-returns-in-Bad c =
-    taken (goal.at.returns-in-Bad c).After-lesser-deep (open-bad (deep (goal.at.returns-in-Bad c).After-lesser-deep) (bytes (goal.at.returns-in-Bad c).After-lesser-deep) (omega arith) (omega arith) c.in-Open.first c.in-Open.size (nest (goal.at.returns-in-Bad c).In-Open) (sym c.in-Bad.is ∙ c.parts.ensures))
+pub returns-then-bytes_behind : goal.returns-then-bytes_behind
+returns-then-bytes_behind c =
+    rw (stands (goal.at.returns-then-bytes_behind c).After-parts) (followed _ _ _ (to_depth _ _ _ c.in_ok-parts.ensures (omega arith)) (grind (arith, nat_tests)))
 
-pub returns-in-Deep : goal.returns-in-Deep
-returns-in-Deep c =
-    taken (goal.at.returns-in-Deep c).After-lesser-deep (open-deep (deep (goal.at.returns-in-Deep c).After-lesser-deep) (bytes (goal.at.returns-in-Deep c).After-lesser-deep) (omega arith) (omega arith) c.in-Open.first c.in-Open.size (nest (goal.at.returns-in-Deep c).In-Open) (sym c.in-Deep.is ∙ c.parts.ensures))
-
-pub returns-else-size-v-2 : goal.returns-else-size-v-2
-returns-else-size-v-2 c =
-    taken (goal.at.returns-else-size-v-2 c).After-lesser-deep
-    (open-whole (deep (goal.at.returns-else-size-v-2 c).After-lesser-deep) (bytes (goal.at.returns-else-size-v-2 c).After-lesser-deep) (omega arith) (omega arith) c.in-Open.first c.in-Open.size (nest (goal.at.returns-else-size-v-2 c).In-Open) c.in-Whole.n (sym c.in-Whole.is ∙ c.parts.ensures) (omega arith))
+pub returns : goal.returns
+returns c =
+    rw (stands (goal.at.returns c).After-parts) (alone _ _ _ _ (to_depth _ _ _ c.in_ok-parts.ensures (omega arith)) (grind (arith, nat_tests)) (c.count.ensures _))

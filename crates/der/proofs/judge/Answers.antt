@@ -1,38 +1,36 @@
--- `der::judge` meets its contract: a law of Outer for each way out. Assumes nothing.
-use Prim.Native.Nat.{ℕ}
-use mathlib.Core.Path.{◌≡◌, sym, ◌∙◌}
-use mathlib.Core.List.{List}
-use native.Mathlib.Omega.{arith}
-use Rattle.der.specs.Walk.{judged, depth_for}
-use Rattle.der.specs.declared.Walked.TheVariants.{Whole}
-use Rattle.der.proofs.Outer.{not-der, not-flat, other_tag, other-count, kept-one}
+-- `der::judge` meets its contract. Assumes nothing.
+use Rattle.std.proofs.Common.{true, false, arith, ◌≡◌, ◌&&◌, ℕ, List, [], ◌∷◌, get_or, Some, refl, eqb}
+use Rattle.std.specs.Option.{option_eq}
+use Rattle.std.specs.List.{slice_get}
+use Rattle.std.proofs.lemmas.Bool.Decides.{nat_tests}
+use Rattle.std.proofs.lemmas.Result.{err_from_is_err_and}
+use Rattle.verdicts.specs.Verdicts.{unless}
+use Rattle.verdicts.specs.declared.Fault.TheVariants.{BadDer}
+use Rattle.der.specs.Walk.{certificate, depth_for}
 use Rattle.der.proofs.judge.Goals as goal
-use Rattle.der.proofs.judge.Goals.{In-Whole}
+use Rattle.der.proofs.judge.Goals.{After-eq-sequence}
 
--- the depth and the bytes, where the item is whole
-abbrev deep : In-Whole → ℕ
-deep k = depth_for k.args.depth
+pub returns-in_err-count : goal.returns-in_err-count
+unfolding certificate
+returns-in_err-count c =
+    let p = err_from_is_err_and c.from_residual.result c.from_residual.ensures.1 in
+    rw (p.1, p.2, ← c.in_err-count.ensures) refl
 
-abbrev bytes : In-Whole → List ℕ
-bytes k = k.args.v.now
+-- the first byte, asked for
+first_is : (v : List ℕ) → eqb (get_or v 0 0) 0x30 ≡ option_eq eqb (slice_get v 0) (Some 0x30)
+first_is [] = refl
+first_is (b ∷ v) = refl
 
-whole : (k : In-Whole) → Whole k.in-Whole.n ≡ judged (deep k) (bytes k)
-whole k = sym k.in-Whole.is ∙ k.item.ensures
+tested : (k : After-eq-sequence) → certificate (depth_for k.args.depth) k.args.v.now ≡ unless BadDer (k.eq-sequence.result && eqb k.in_ok-count.count 3)
+unfolding certificate
+tested k = rw (← k.in_ok-count.ensures, first_is, ← k.first.ensures.value, ← k.copied.ensures, ← k.eq-sequence.ensures) refl
 
-pub returns-then-first_byte-ne48 : goal.returns-then-first_byte-ne48
-returns-then-first_byte-ne48 c =
-    other_tag (deep (goal.at.returns-then-first_byte-ne48 c).In-Whole) (bytes (goal.at.returns-then-first_byte-ne48 c).In-Whole) c.in-Whole.n c.first_byte.result (whole (goal.at.returns-then-first_byte-ne48 c).In-Whole) c.first_byte.ensures (λ q. omega arith)
+pub returns-then-sequence-three : goal.returns-then-sequence-three
+returns-then-sequence-three c =
+    let t : (c.eq-sequence.result && eqb c.in_ok-count.count 3) ≡ true = grind (arith, nat_tests) in
+    rw (tested (goal.at.returns-then-sequence-three c).After-eq-sequence, t) refl
 
-pub returns-then-n-ne3 : goal.returns-then-n-ne3
-returns-then-n-ne3 c =
-    other-count (deep (goal.at.returns-then-n-ne3 c).In-Whole) (bytes (goal.at.returns-then-n-ne3 c).In-Whole) c.in-Whole.n c.first_byte.result (whole (goal.at.returns-then-n-ne3 c).In-Whole) c.first_byte.ensures (omega arith) (λ q. omega arith)
-
-pub returns-in-Bad : goal.returns-in-Bad
-returns-in-Bad c = let a = c.args in not-der (depth_for a.depth) a.v.now (sym c.in-Bad.is ∙ c.item.ensures)
-
-pub returns-in-Deep : goal.returns-in-Deep
-returns-in-Deep c = let a = c.args in not-flat (depth_for a.depth) a.v.now (sym c.in-Deep.is ∙ c.item.ensures)
-
-pub returns-else-n-ne3 : goal.returns-else-n-ne3
-returns-else-n-ne3 c =
-    kept-one (deep (goal.at.returns-else-n-ne3 c).In-Whole) (bytes (goal.at.returns-else-n-ne3 c).In-Whole) c.in-Whole.n c.first_byte.result (whole (goal.at.returns-else-n-ne3 c).In-Whole) c.first_byte.ensures (omega arith) (omega arith)
+pub returns-else-sequence-three : goal.returns-else-sequence-three
+returns-else-sequence-three c =
+    let t : (c.eq-sequence.result && eqb c.in_ok-count.count 3) ≡ false = grind (arith, nat_tests) in
+    rw (tested (goal.at.returns-else-sequence-three c).After-eq-sequence, t) refl

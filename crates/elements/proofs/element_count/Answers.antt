@@ -1,45 +1,47 @@
--- `elements::element_count` meets its contract. The loop's invariant: the rows to come have the rest of the count. Assumes nothing.
-use Prim.Native.Nat.{◌-◌, ◌<◌}
-use mathlib.Core.Path.{◌≡◌, ◌∙◌}
-use native.Mathlib.Nat.{zero-add, sub-zero}
+-- `elements::element_count` meets its contract: a row counts, or does not. Assumes nothing.
+use Prim.Native.Nat.{◌<◌, ◌-◌}
+use mathlib.Core.Path.{◌≡◌, sym, ap, ◌∙◌}
 use native.Mathlib.Omega.{arith}
-use lib.ListN.{length}
+use lib.ListN.{length, take, get_or}
+use lib.Seq.{get_or-take, length-take-le}
 use Rattle.kinds.specs.Tables.{table}
 use Rattle.kinds.proofs.Every.{few-rows, last-is-all}
-use Rattle.elements.proofs.Lines.{count_none, count-some, count-end}
+use Rattle.container.specs.Spans.{absent}
+use Rattle.container.specs.declared.rows.Span.{Span}
+use Rattle.elements.proofs.Lines.{count_none, count_some, count_end}
 use Rattle.elements.proofs.element_count.Goals as goal
-use Rattle.elements.proofs.element_count.Goals.{At-loop-row, In-loop-row}
+use Rattle.elements.proofs.element_count.Goals.{At-loop-span, In-loop-span, then-span-ne0, else-span-ne0}
 
--- the loop goes as far as the table
-all : (l : At-loop-row) → l.last_row-rows.result ≡ length (table l.args.kind)
-all l = l.last_row-rows.ensures ∙ last-is-all l.args.kind
+-- the loop goes over the rows of the table
+all : (l : At-loop-span) → length (take l.last_row.result l.args.rows.now) ≡ length (table l.args.kind)
+all l =
+    let e = l.last_row.ensures ∙ last-is-all l.args.kind in
+    length-take-le l.last_row.result l.args.rows.now (omega (arith, e, few-rows l.args.kind, l.told-rows)) ∙ e
 
-there : (c : In-loop-row) → c.loop-row.row < length (table c.args.kind)
-there c = omega (arith, all (goal.at.In-loop-row c).At-loop-row, c.loop-row-test.true)
+there : (c : In-loop-span) → c.loop-span.span-index < length (table c.args.kind)
+there c = omega (arith, all (goal.at.In-loop-span c).At-loop-span, c.loop-span-test.true)
 
-pub loop-row-init : goal.loop-row-init
-loop-row-init c = (omega arith, omega arith, λ starts. rw sub-zero (zero-add _))
+-- and a turn looks at the row that is next
+same-row : (c : In-loop-span) → get_or (take c.last_row.result c.args.rows.now) c.loop-span.span-index absent ≡ get_or c.args.rows.now c.loop-span.span-index absent
+same-row c =
+    get_or-take c.last_row.result c.args.rows.now c.loop-span.span-index absent
+    (omega (arith, there c, c.last_row.ensures ∙ last-is-all c.args.kind))
 
-pub loop-row-smaller-then-end-ne0 : goal.loop-row-smaller-then-end-ne0
-loop-row-smaller-then-end-ne0 c = omega (arith, there (goal.at.loop-row-smaller-then-end-ne0 c).In-loop-row)
-
-pub loop-row-preserved-then-end-ne0 : goal.loop-row-preserved-then-end-ne0
-loop-row-preserved-then-end-ne0 c =
+pub loop-span-preserved : goal.loop-span-preserved
+loop-span-preserved c =
     let a = c.args in
-    let h = there (goal.at.loop-row-preserved-then-end-ne0 c).In-loop-row in
-    (omega (arith, h, few-rows a.kind), omega arith, λ starts. omega (arith, c.loop-row.invariant.2 starts, count-some starts a.map.to (length (table a.kind)) c.loop-row.row h c.if-end-ne0.true))
-
-pub loop-row-smaller : goal.loop-row-smaller
-loop-row-smaller c = omega (arith, there (goal.at.loop-row-smaller c).In-loop-row)
-
-pub loop-row-preserved : goal.loop-row-preserved
-loop-row-preserved c =
-    let a = c.args in
-    let h = there (goal.at.loop-row-preserved c).In-loop-row in
-    (omega (arith, h, few-rows a.kind), omega arith, λ starts. omega (arith, c.loop-row.invariant.2 starts, count_none starts a.map.to (length (table a.kind)) c.loop-row.row h c.if-end-ne0.false))
+    let t = (goal.at.loop-span-preserved c).In-loop-span in
+    let n = length (table a.kind) in
+    let i = c.loop-span.span-index in
+    let e = ap (λ (s : Span). s.to) (same-row t) in
+    elim c.if-span-ne0.branch [
+      | then-span-ne0 w ↦ rw w.count-is (omega arith, omega (arith, c.loop-span.invariant.1, count_some a.rows.now n i (there t) (λ z. w.if-span-ne0.true (e ∙ z))))
+      | else-span-ne0 w ↦ rw w.count-is (omega arith, omega (arith, c.loop-span.invariant.1, count_none a.rows.now n i (there t) (sym e ∙ w.if-span-ne0.false)))
+    ]
 
 pub returns : goal.returns
 returns c =
     let a = c.args in
     let n = length (table a.kind) in
-    omega (arith, c.loop-row.invariant.2 a.map.from, count-end a.map.from a.map.to (n - c.loop-row.row) c.loop-row.row (omega (arith, all (goal.at.returns c).At-loop-row, c.loop-row-test.false)))
+    let i = c.loop-span.span-index in
+    omega (arith, c.loop-span.invariant.1, count_end a.rows.now (n - i) i (omega (arith, all (goal.at.returns c).At-loop-span, c.loop-span-test.false)))

@@ -1,11 +1,7 @@
 -- `fascn::put` meets its contract. Assumes nothing.
-use mathlib.Core.Path.{◌≡◌}
-use Prim.Native.Nat.{◌+◌, ◌-◌, ◌/◌, ◌^◌, ◌≤◌}
+use Rattle.std.proofs.Common.{◌≡◌, ◌+◌, ◌-◌, ◌/◌, ◌^◌, ◌≤◌}
 use Rattle.laws.specs.Digits.{digits, stored}
 use Rattle.fascn.proofs.put.Given as goal
 
 abbrev pub invariant-loop-i : goal.invariant-loop-i
-invariant-loop-i l = (l.i ≤ l.count) × (l.out ≡ stored l.initial.out (l.at + l.i) (digits l.base (l.count - l.i) l.x)) × (l.rest ≡ l.x / l.base ^ (l.count - l.i))
-
-abbrev pub decreases-loop-i : goal.decreases-loop-i
-decreases-loop-i l = l.i
+invariant-loop-i g l = (l.i ≤ l.count) × (l.out ≡ stored l.initial.out (l.at + l.i) (digits l.base (l.count - l.i) l.x)) × (l.rest ≡ l.x / l.base ^ (l.count - l.i))

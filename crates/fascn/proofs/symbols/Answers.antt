@@ -1,23 +1,8 @@
 -- `fascn::symbols` meets its contract. Assumes nothing.
-use mathlib.Core.Path.{◌≡◌, ◌∙◌}
-use Prim.Native.Nat.{◌≤◌, ◌<◌}
-use native.Mathlib.Omega.{arith}
-use lib.ListN.{length}
-use borrow.Author.Rules.{rules}
-use Rattle.laws.proofs.Turns.{mapped_next, mapped-all}
+use Rattle.std.proofs.Common.{rules}
+use Rattle.laws.proofs.Turns.{mapped_next}
 use Rattle.fascn.specs.Fascn.{symbol}
 use Rattle.fascn.proofs.symbols.Goals as goal
-use Rattle.fascn.proofs.symbols.Goals.{Start}
 
-long : (c : Start) → length c.args.v ≡ 40
-long c = search rules
-
-pub loop-k-preserved : goal.loop-k-preserved
-loop-k-preserved c =
-    let h : c.loop-k.k < length c.args.v = omega (arith, long (goal.at.loop-k-preserved c).Start) in
-    (search rules, rw (c.symbol.ensures, c.loop-k.invariant.1) (mapped_next symbol _ _ h))
-
-pub returns : goal.returns
-returns c =
-    let h : length c.args.v ≤ c.loop-k.k = omega (arith, long (goal.at.returns c).Start) in
-    c.loop-k.invariant.1 ∙ mapped-all symbol _ _ h
+pub loop-c-preserved : goal.loop-c-preserved
+loop-c-preserved c = rw (c.symbol.ensures, c.loop-c.invariant) (mapped_next symbol c.loop-c.c-index c.args.v (search rules))

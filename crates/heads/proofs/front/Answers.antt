@@ -1,16 +1,16 @@
 -- `heads::front` meets its contract: a law of Heads for each way out. Assumes nothing.
-use mathlib.Core.Path.{◌∙◌}
-use native.Mathlib.Omega.{arith}
-use Rattle.heads.proofs.Heads.{too_short, one_byte}
+use Rattle.std.proofs.Common.{arith, sym, ◌∙◌}
+use Rattle.heads.proofs.Heads.{too_short, one_byte, inside}
 use Rattle.heads.proofs.front.Goals as goal
 
-pub returns-then-s-lt2 : goal.returns-then-s-lt2
-returns-then-s-lt2 c = too_short _ (omega arith)
+pub returns-then-s-lt2-clause-head : goal.returns-then-s-lt2-clause-head
+returns-then-s-lt2-clause-head c = too_short _ (omega arith)
 
-pub long_front-requires : goal.long_front-requires
-long_front-requires c = (omega arith, omega arith)
+pub returns-then-n-ge128-clause-inside : goal.returns-then-n-ge128-clause-inside
+returns-then-n-ge128-clause-inside c = inside _ _ (sym c.long_front.ensures)
 
 pub returns : goal.returns
 returns c =
     let s = c.args.s.now in
-    c.fitting.ensures ∙ one_byte s c.index.result c.index-n.result (omega arith) (omega arith) (omega arith) (omega arith)
+    let e = c.fitting.ensures ∙ one_byte s c.from.result c.from-n.result (omega arith) (omega arith) (omega arith) (omega arith) in
+    record { head = e; inside = inside s _ (sym e) }

@@ -6,4 +6,4 @@ use Rattle.opens.proofs.put_chuid.Goals as goal
 pub returns : goal.returns
 unfolding open_part
 returns c =
-    then (rw c.origin_of-origin.ensures at c.put_holder-at.ensures) (rw c.day_number.ensures at c.put_digits.ensures)
+    then (rw c.origin_of-origin.ensures at c.put_holder-at.ensures) (rw (c.unwrap_or.ensures, c.date_of.ensures) at c.put_digits.ensures)

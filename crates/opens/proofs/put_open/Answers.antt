@@ -1,16 +1,24 @@
 -- `opens::put_open` meets its contract: an arm for each kind. Assumes nothing.
 use mathlib.Core.Path.{ap}
+use native.Mathlib.Omega.{arith}
 use Rattle.laws.specs.Bytes.{Bytes}
 use Rattle.laws.proofs.Bases.{below_of}
 use Rattle.laws.proofs.Rooms.{same_text}
+use Rattle.kinds.specs.Tables.{table}
+use Rattle.container.specs.Container.{Allowed}
+use Rattle.container.specs.Judged.{contents}
 use Rattle.opens.specs.Open.{open_part}
-use Rattle.opens.proofs.Openings.{nothing-open}
-use Rattle.opens.proofs.Opens.{card-open, policy-open, issuer-open, fingers-open, face-open, iris-open}
+use Rattle.opens.proofs.Openings.{other_kind, nothing-open}
+use Rattle.opens.proofs.Opens.{are-allowed, card-open, policy-open, issuer-open, six_or_seven, twelve}
 use Rattle.opens.proofs.put_open.Goals as goal
-use Rattle.opens.proofs.put_open.Goals.{After-shared_slice_known-1}
+use Rattle.opens.proofs.put_open.Goals.{Start, in-12-1, in_default+else-c-lt6+then-c-lt8, in_default-via-then-c-lt6, in_default-via-else-c-lt6+else-c-lt8}
 
-bytes : (c : After-shared_slice_known-1) → Bytes c.args.c.now
-bytes c = below_of 256 c.args.c.now (λ k. (c.type_inv.c k).fits)
+bytes : (c : Start) → Bytes c.args.c.rows.bytes.now
+bytes c = below_of 256 c.args.c.rows.bytes.now c.args.c.rows.are_bytes
+
+-- the values of a container that conforms
+allowed : (c : Start) → Allowed c.args.c.today (table c.args.c.kind) (contents c.args.c)
+allowed c = are-allowed c.args.c.rows.spans c.args.c.rows.bytes.now c.args.c.kind c.args.c.today (bytes c) c.args.c.allowed
 
 pub returns-in-1 : goal.returns-in-1
 unfolding open_part
@@ -19,41 +27,37 @@ returns-in-1 c = rw c.in-1.is c.put_all.ensures
 pub returns-in-2 : goal.returns-in-2
 returns-in-2 c =
     let k = c.in-2.is in
-    let m = c.args.map in
-    let (today, a) = c.requires.by_index in
-    rw k (same_text (ap open_part (card-open m.from m.to c.args.c.now today (rw k at a))) (rw (c.part.ensures.result_value, c.part-in-2.ensures.result_value) at c.put_chuid.ensures))
+    let m = c.args.c in
+    rw k (same_text (ap open_part (card-open m.rows.spans m.rows.bytes.now m.today (rw k at (allowed (goal.at.returns-in-2 c).Start)))) (rw (c.part.ensures.result_value, c.part-in-2.ensures.result_value) at c.put_chuid.ensures))
 
 pub returns-in-3 : goal.returns-in-3
 returns-in-3 c =
-    let m = c.args.map in
-    rw c.in-3.is (same_text (ap open_part (policy-open m.from m.to c.args.c.now)) (rw c.part-in-3.ensures.result_value at c.put_policy.ensures))
+    let m = c.args.c in
+    rw c.in-3.is (same_text (ap open_part (policy-open m.rows.spans m.rows.bytes.now)) (rw c.part-in-3.ensures.result_value at c.put_policy.ensures))
 
 pub returns-in-4 : goal.returns-in-4
 returns-in-4 c =
-    let m = c.args.map in
-    rw c.in-4.is (same_text (ap open_part (issuer-open m.from m.to c.args.c.now)) (rw c.part-in-4.ensures.result_value at c.put_issuer.ensures))
+    let m = c.args.c in
+    rw c.in-4.is (same_text (ap open_part (issuer-open m.rows.spans m.rows.bytes.now)) (rw c.part-in-4.ensures.result_value at c.put_issuer.ensures))
 
 pub returns-in-6 : goal.returns-in-6
 returns-in-6 c =
-    let k = c.in-6.is in
-    let m = c.args.map in
-    let (today, a) = c.requires.by_index in
-    rw k (same_text (ap open_part (fingers-open m.from m.to c.args.c.now (bytes (goal.at.returns-in-6 c).After-shared_slice_known-1) today (rw k at a))) (rw c.part-in-6.ensures.result_value at c.put_biometric.ensures))
-
-pub returns-in-7 : goal.returns-in-7
-returns-in-7 c =
-    let k = c.in-7.is in
-    let m = c.args.map in
-    let (today, a) = c.requires.by_index in
-    rw k (same_text (ap open_part (face-open m.from m.to c.args.c.now (bytes (goal.at.returns-in-7 c).After-shared_slice_known-1) today (rw k at a))) (rw c.part-in-7.ensures.result_value at c.put_biometric-in-7.ensures))
-
-pub returns-in-12 : goal.returns-in-12
-returns-in-12 c =
-    let k = c.in-12.is in
-    let m = c.args.map in
-    let (today, a) = c.requires.by_index in
-    rw k (same_text (ap open_part (iris-open m.from m.to c.args.c.now (bytes (goal.at.returns-in-12 c).After-shared_slice_known-1) today (rw k at a))) (rw c.part-in-12.ensures.result_value at c.put_biometric-in-12.ensures))
+    let m = c.args.c in
+    let b = bytes (goal.at.returns-in-6 c).Start in
+    let a = allowed (goal.at.returns-in-6 c).Start in
+    let t = rw c.part-in-6.ensures.result_value at c.put_biometric.ensures in
+    elim c.in-6-1.branch [
+      | in-12-1 w ↦ same_text (ap open_part (twelve m.rows.spans m.rows.bytes.now b m.today m.kind (omega arith) a)) t
+      | in_default+else-c-lt6+then-c-lt8 w ↦ same_text (ap open_part (six_or_seven m.rows.spans m.rows.bytes.now b m.today m.kind (omega arith) (omega arith) a)) t
+    ]
 
 pub returns-in_default : goal.returns-in_default
 unfolding open_part
-returns-in_default c = rw (← nothing-open _ c.in_default.in_default-own.rest) c.put_all-in_default.ensures
+returns-in_default c =
+    let k = c.args.c.kind in
+    elim c.in_default.branch [
+      | in_default-via-then-c-lt6 w ↦
+          rw (← nothing-open k (other_kind k (λ e. omega arith) (λ e. omega arith) (λ e. omega arith) (λ e. omega arith) (λ e. omega arith) (λ e. omega arith) (λ e. omega arith))) c.put_all-in_default.ensures
+      | in_default-via-else-c-lt6+else-c-lt8 w ↦
+          rw (← nothing-open k (other_kind k (λ e. omega arith) (λ e. omega arith) (λ e. omega arith) (λ e. omega arith) (λ e. omega arith) (λ e. omega arith) (λ e. omega arith))) c.put_all-in_default.ensures
+    ]

@@ -1,14 +1,8 @@
--- `plain::is_text` meets its contract. The loop's invariant: all bytes are text exactly where those before i were and those from i on are. Assumes
--- nothing.
-use Prim.Native.Nat.{◌-◌, ◌≤◌}
-use mathlib.Core.Path.{◌≡◌}
-use mathlib.Core.Bool.{◌&&◌}
-use lib.ListN.{length, drop}
-use Rattle.plain.specs.Plain.{is_text}
+-- `plain::is_text` meets its contract. The loop's invariant: the bytes so far are text. Assumes nothing.
+use Rattle.std.proofs.Common.{◌≡◌, take}
+use Rattle.laws.specs.Tests.{each}
+use Rattle.plain.specs.Plain.{is_printed}
 use Rattle.plain.proofs.is_text.Given as goal
 
-abbrev pub invariant-loop-i : goal.invariant-loop-i
-invariant-loop-i l = (l.i ≤ length l.s) × ((l.text && is_text (drop l.i l.s)) ≡ is_text l.s)
-
-abbrev pub decreases-loop-i : goal.decreases-loop-i
-decreases-loop-i l = length l.s - l.i
+abbrev pub invariant-loop-b : goal.invariant-loop-b
+invariant-loop-b l = l.text ≡ each is_printed (take l.b-index l.s)

@@ -1,30 +1,33 @@
 -- `points::locate` meets its contract: a law for each way out. Assumes nothing.
-use mathlib.Core.Path.{ap, ◌∙◌}
+use Prim.Native.Nat.{ℕ}
+use mathlib.Core.List.{List}
+use mathlib.Core.Path.{sym, ap, ◌∙◌}
+use lib.ListN.{get_or}
+use Rattle.std.proofs.Common.{Fits, w8}
+use Rattle.std.proofs.lemmas.Result.{err_from_is_err_and}
 use Rattle.laws.specs.Bytes.{Bytes}
 use Rattle.laws.proofs.Bases.{below_of}
-use Rattle.verdicts.specs.Verdicts.{verdict_of}
-use Rattle.container.proofs.Lying.{read-broken}
-use Rattle.points.proofs.Ways.{out-broken, stand, out-fine}
+use Rattle.container.specs.Judged.{rows_of}
+use Rattle.points.proofs.Ways.{out_broken, stand, out_fine}
 use Rattle.points.proofs.locate.Goals as goal
-use Rattle.points.proofs.locate.Goals.{After-shared_slice_known-1}
 
-bytes : (x : After-shared_slice_known-1) → Bytes x.args.container.now
-bytes x = below_of 256 x.args.container.now (λ i. (x.type_inv.container i).fits)
+bytes : (c : List ℕ) → ((i : ℕ) → Fits w8 (get_or c i 0)) → Bytes c
+bytes c f = below_of 256 c (λ i. (f i).fits)
+
+pub returns-in_err-read : goal.returns-in_err-read
+returns-in_err-read c =
+    let p = err_from_is_err_and c.from_residual.result c.from_residual.ensures.1 in
+    rw (p.1, p.2) (out_broken (bytes _ c.type_inv.container) (sym (ap rows_of c.in_err-read.was) ∙ c.judge.ensures.value))
 
 pub plan_at-requires : goal.plan_at-requires
 plan_at-requires c =
     let a = c.args in
-    stand a.today a.container.now (bytes (goal.at.plan_at-requires c).After-shared_slice_known-1) c.judge-map.ensures.value c.in-Fine.is c.judge-map.ensures.inside
+    let o = c.in_ok-read.ensures.of.bytes_are in
+    stand a.today a.container.now (bytes _ c.type_inv.container) (sym (ap rows_of c.in_ok-read.was) ∙ c.judge.ensures.value) (rw o at c.in_ok-read.read.rows.inside)
 
-pub returns-in-Broken : goal.returns-in-Broken
-returns-in-Broken c =
+pub returns : goal.returns
+returns c =
     let a = c.args in
-    let o = c.in-Broken.is in
-    rw (c.no_plan.ensures, c.verdict_of.ensures ∙ ap verdict_of o)
-    (out-broken (bytes (goal.at.returns-in-Broken c).After-shared_slice_known-1) _ (read-broken 6 a.today a.container.now c.judge-map.ensures.value o))
-
-pub returns-in-Fine : goal.returns-in-Fine
-returns-in-Fine c =
-    let a = c.args in
+    let o = c.in_ok-read.ensures.of.bytes_are in
     rw c.plan_at.ensures
-    (out-fine a.today a.container.now (bytes (goal.at.returns-in-Fine c).After-shared_slice_known-1) c.judge-map.ensures.value c.in-Fine.is c.judge-map.ensures.inside a.room)
+    (out_fine a.today a.container.now (bytes _ c.type_inv.container) (sym (ap rows_of c.in_ok-read.was) ∙ c.judge.ensures.value) (rw o at c.in_ok-read.read.rows.inside) a.room)

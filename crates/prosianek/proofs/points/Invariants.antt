@@ -1,5 +1,5 @@
 -- The first i entries of the list are those of the plan, and the others as they were lent. Assumes nothing.
-use Rattle.std.proofs.Common.{length, ◌-◌, ◌≡◌, ◌≤◌}
+use Rattle.std.proofs.Common.{length, ◌≡◌, ◌≤◌}
 use Rattle.points.specs.Places.{entry_of}
 use Rattle.columns.specs.Columns.{spliced}
 use Rattle.prosianek.proofs.points.Given as goal
@@ -9,6 +9,3 @@ invariant-loop-i l = record {
   in_range : l.i ≤ length l.initial.list;
   filled : l.list ≡ spliced (entry_of l.container l.plan) 0 l.i l.initial.list;
 }
-
-abbrev pub decreases-loop-i : goal.decreases-loop-i
-decreases-loop-i l = length l.initial.list - l.i

@@ -10,6 +10,6 @@ use Rattle.report.proofs.put_fine.Goals as goal
 pub returns : goal.returns
 unfolding report_text
 returns c =
-    let a = c.args in
-    let q = ap (elements_part (table a.kind)) (sym (map-shape a.kind a.map a.c.now c.requires.inside)) in
+    let m = c.args.c in
+    let q = ap (elements_part (table m.kind)) (sym (map-shape m.kind m.rows.spans m.rows.bytes.now m.rows.inside)) in
     then (then c.put_card-at.ensures (same_text q c.put_elements-at.ensures)) c.put_open.ensures

@@ -1,124 +1,59 @@
--- `sheet::put_sheet` meets its contract. The loop's invariant: what is left of the sheet is that of the rows to come. Assumes nothing.
-use Prim.Native.Nat.{◌≤◌, ◌<◌}
-use mathlib.Core.Logic.{inl, inr}
-use mathlib.Core.Path.{◌≡◌, refl, ap, ◌∙◌}
+-- `sheet::put_sheet` meets its contract. Assumes nothing.
+use Rattle.std.proofs.Common.{rules, ◌≡◌, refl, [], length, ◌-◌, ◌<◌, ◌∙◌, ap, arith}
 use native.Mathlib.Nat.{sub-zero}
-use native.Mathlib.Omega.{arith}
-use lib.ListN.{length, get_or}
-use borrow.Author.Rules.{rules}
-use Rattle.laws.specs.Room.{laid}
-use Rattle.laws.proofs.Rooms.{begin, step, ended}
+use Rattle.laws.proofs.Rooms.{begin, same, step, ended}
 use Rattle.kinds.specs.Tables.{table}
-use Rattle.kinds.proofs.Every.{few-rows, last-is-all}
+use Rattle.kinds.proofs.Every.{last-is-all}
+use Rattle.container.specs.Judged.{contents}
 use Rattle.container.specs.Map.{row_values}
+use Rattle.container.specs.declared.conforming.Conforming.{Conforming}
 use Rattle.sheet.specs.Sheet.{sheet_of}
-use Rattle.sheet.proofs.Sheets.{absent-next, value-next, value-length, none_left}
+use Rattle.sheet.proofs.Sheets.{absent_next, value_next, absent_length, value_length, value_within, none_left}
 use Rattle.sheet.proofs.put_sheet.Goals as goal
-use Rattle.sheet.proofs.put_sheet.Goals.{After-loop-row, In-loop-row}
+use Rattle.sheet.proofs.put_sheet.Goals.{After-loop-row, in-None, in-Some}
 
--- the row is one of the table's
-next : (c : In-loop-row) → c.loop-row.row < length (table c.args.kind)
-next c = omega (arith, c.loop-row.invariant.8)
-
-few : (c : In-loop-row) → c.loop-row.row < 15
-few c = omega (arith, next c, few-rows c.args.kind)
-
--- and lies so
-lies : (c : In-loop-row) → let a = c.args in
-    (get_or a.map.from c.loop-row.row 0 ≤ get_or a.map.to c.loop-row.row 0) × (get_or a.map.to c.loop-row.row 0 ≤ length a.c.now)
-lies c = (c.loop-row.invariant.6.ordered c.loop-row.row, c.loop-row.invariant.6.within c.loop-row.row)
+-- at the start all of them are
+all_rows : (m : Conforming) → sheet_of (contents m) ≡ sheet_of (row_values m.rows.spans m.rows.bytes.now (length (table m.kind) - 0) 0)
+all_rows m = rw sub-zero refl
 
 pub loop-row-init : goal.loop-row-init
 loop-row-init c =
-    rw sub-zero (omega arith, refl, omega arith, omega arith, omega arith, begin _ _, c.requires.0, c.requires.1, c.last_row-rows.ensures ∙ last-is-all c.args.kind)
-
-pub loop-row-preserved-then-end-eq0 : goal.loop-row-preserved-then-end-eq0
-loop-row-preserved-then-end-eq0 c =
-    let v = c.loop-row in
-    let a = c.args in
-    let e = absent-next a.map.from a.map.to a.c.now (length (table a.kind)) v.row (next (goal.at.loop-row-preserved-then-end-eq0 c).In-loop-row) c.if-end-eq0.true in (
-      omega (arith, next (goal.at.loop-row-preserved-then-end-eq0 c).In-loop-row),
-      search rules,
-      search rules,
-      omega arith,
-      omega (arith, v.invariant.4, ap length e),
-      step e v.invariant.5 c.put_count-at.ensures,
-      v.invariant.6,
-      v.invariant.7,
-      v.invariant.8,
-    )
+    let w = all_rows c.args.c in
+    (omega arith, c.last_row-row-end.ensures ∙ last-is-all c.args.c.kind, refl, omega arith, omega arith, omega (arith, ap length w), same w (begin _ _))
 
 pub loop-row-preserved : goal.loop-row-preserved
 loop-row-preserved c =
+    let m = c.args.c in
     let v = c.loop-row in
-    let a = c.args in
-    let e = value-next a.map.from a.map.to a.c.now (length (table a.kind)) v.row (next (goal.at.loop-row-preserved c).In-loop-row) c.if-end-eq0.false in
-    let k = value-length a.map.from a.map.to a.c.now (length (table a.kind)) v.row (next (goal.at.loop-row-preserved c).In-loop-row) c.if-end-eq0.false (lies (goal.at.loop-row-preserved c).In-loop-row).0 (lies (goal.at.loop-row-preserved c).In-loop-row).1 in (
-      omega (arith, next (goal.at.loop-row-preserved c).In-loop-row),
-      search rules,
-      search rules,
-      omega (arith, lies (goal.at.loop-row-preserved c).In-loop-row, v.invariant.7),
-      omega (arith, v.invariant.4, k),
-      step e v.invariant.5 c.put_section-at.ensures,
-      v.invariant.6,
-      v.invariant.7,
-      v.invariant.8,
-    )
+    let n = length (table m.kind) in
+    let h : v.row < n = omega (arith, v.invariant.1, c.loop-row-test.true) in
+    elim c.match-value.branch [
+      | in-None w ↦ (
+        omega (arith, h),
+        v.invariant.1,
+        c.match-value.auto.out ∙ v.invariant.2,
+        rw (w.out-is, w.at-is) (search rules),
+        omega (arith, w.size-is, v.invariant.4),
+        omega (arith, w.size-is, v.invariant.5, absent_length m.rows.spans m.rows.bytes.now n v.row h w.in-None.ensures),
+        rw (w.out-is, w.at-is) (step (absent_next m.rows.spans m.rows.bytes.now n v.row h w.in-None.ensures) v.invariant.6 w.put_count-at.ensures),
+      )
+      | in-Some w ↦ (
+        omega (arith, h),
+        v.invariant.1,
+        c.match-value.auto.out ∙ v.invariant.2,
+        rw (w.out-is, w.at-is) (search rules),
+        omega (arith, w.size-is, v.invariant.4, m.small, value_within m.rows.spans m.rows.bytes.now v.row w.in-Some.ensures),
+        omega (arith, w.size-is, v.invariant.5, value_length m.rows.spans m.rows.bytes.now n v.row h w.in-Some.ensures),
+        rw (w.out-is, w.at-is) (step (value_next m.rows.spans m.rows.bytes.now n v.row h w.in-Some.ensures) v.invariant.6 w.put_section-at.ensures),
+      )
+    ]
 
--- at the end all of it was put there
-put : (e : After-loop-row) → let a = e.args in
-    let all = sheet_of (row_values a.map.from a.map.to a.c.now (length (table a.kind)) 0) in
-    (e.loop-row.size ≡ length all) × (e.loop-row.out ≡ laid all a.out.now)
-put e =
-    let v = e.loop-row in
-    let a = e.args in
-    let n = none_left a.map.from a.map.to a.c.now (length (table a.kind)) v.row (omega (arith, v.invariant.8)) in
-    (omega (arith, v.invariant.4, ap length n), (ended n v.invariant.5).room)
+-- at the end no row is left
+no_more : (e : After-loop-row) → let m = e.args.c in sheet_of (row_values m.rows.spans m.rows.bytes.now (length (table m.kind) - e.loop-row.row) e.loop-row.row) ≡ []
+no_more e = let m = e.args.c in none_left m.rows.spans m.rows.bytes.now (length (table m.kind)) e.loop-row.row (omega (arith, e.loop-row.invariant.1, e.loop-row-test.false))
 
-pub returns-then-out-size : goal.returns-then-out-size
-returns-then-out-size c = let (s, r) = put (goal.at.returns-then-out-size c).After-loop-row in record { kept = inl (omega (arith, s, c.loop-row.invariant.1), refl); out_after = r }
+pub returns-clause-size : goal.returns-clause-size
+returns-clause-size c = omega (arith, c.loop-row.invariant.5, ap length (no_more (goal.at.returns-clause-size c).After-loop-row))
 
-pub returns : goal.returns
-returns c = let (s, r) = put (goal.at.returns c).After-loop-row in record { kept = inr (omega (arith, s, c.loop-row.invariant.1), s); out_after = r }
-
-pub offset_bounds-froms-row : goal.offset_bounds-froms-row
-offset_bounds-froms-row c = omega (arith, c.loop-row.invariant.8, few-rows c.args.kind)
-
-pub bounds-froms-row : goal.bounds-froms-row
-bounds-froms-row c = omega (arith, c.loop-row.invariant.8, few-rows c.args.kind)
-
-pub offset_bounds-tos-row : goal.offset_bounds-tos-row
-offset_bounds-tos-row c = omega (arith, c.loop-row.invariant.8, few-rows c.args.kind)
-
-pub bounds-tos-row : goal.bounds-tos-row
-bounds-tos-row c = omega (arith, c.loop-row.invariant.8, few-rows c.args.kind)
-
-pub overflow_add-row : goal.overflow_add-row
-overflow_add-row c = omega (arith, few c)
-
-pub overflow_add-size : goal.overflow_add-size
-overflow_add-size c = omega (arith, few (goal.at.overflow_add-size c).In-loop-row)
-
-pub loop-row-smaller-then-end-eq0 : goal.loop-row-smaller-then-end-eq0
-loop-row-smaller-then-end-eq0 c = omega (arith, next (goal.at.loop-row-smaller-then-end-eq0 c).In-loop-row)
-
-pub slice_bounds-put_section-count : goal.slice_bounds-put_section-count
-slice_bounds-put_section-count c = omega (arith, lies (goal.at.slice_bounds-put_section-count c).In-loop-row)
-
-pub slice_bounds-put_section-start : goal.slice_bounds-put_section-start
-slice_bounds-put_section-start c = omega (arith, lies (goal.at.slice_bounds-put_section-start c).In-loop-row)
-
-pub slice_bounds-put_section-end : goal.slice_bounds-put_section-end
-slice_bounds-put_section-end c = omega (arith, lies (goal.at.slice_bounds-put_section-end c).In-loop-row)
-
-pub overflow_sub-size : goal.overflow_sub-size
-overflow_sub-size c = omega (arith, lies (goal.at.overflow_sub-size c).In-loop-row)
-
-pub overflow_add-size-else-end-eq0 : goal.overflow_add-size-else-end-eq0
-overflow_add-size-else-end-eq0 c = omega (arith, lies (goal.at.overflow_add-size-else-end-eq0 c).In-loop-row)
-
-pub overflow_add-size-else-end-eq0-2 : goal.overflow_add-size-else-end-eq0-2
-overflow_add-size-else-end-eq0-2 c = omega (arith, lies (goal.at.overflow_add-size-else-end-eq0-2 c).In-loop-row, few (goal.at.overflow_add-size-else-end-eq0-2 c).In-loop-row)
-
-pub loop-row-smaller : goal.loop-row-smaller
-loop-row-smaller c = omega (arith, next (goal.at.loop-row-smaller c).In-loop-row)
+pub returns-clause-out_after : goal.returns-clause-out_after
+returns-clause-out_after c = (ended (no_more (goal.at.returns-clause-out_after c).After-loop-row) c.loop-row.invariant.6).room

@@ -1,58 +1,49 @@
 -- `signer::in_blocks` meets its contract: a law for each way out. Assumes nothing.
-use mathlib.Core.List.{List}
-use Prim.Native.Nat.{ℕ}
-use native.Mathlib.Omega.{arith}
 use Rattle.blocks.specs.Reading.{Reads}
-use Rattle.blocks.specs.declared.Block.TheVariants.{Empty, Holds}
-use Rattle.signer.proofs.Ways.{within, out-29, out-own, out-30, out-31, out-block}
+use Rattle.std.specs.Prelude.{Some, None, Ok}
+use Rattle.signer.proofs.Ways.{within, out_29, out_own, out_30, out_31, out_block}
 use Rattle.signer.proofs.in_blocks.Goals as goal
-use Rattle.signer.proofs.in_blocks.Goals.{After-read, After-read-in-Empty, In-Holds, In-Holds-read}
+use Rattle.signer.proofs.in_blocks.Goals.{In-Ok-Some, In-Ok-None, In-Ok-Some-read, In-Ok-None-read}
 
--- the two blocks, at the first answer
-abbrev own : After-read → List ℕ
-own r = r.args.own.now
+own_some : (c : In-Ok-Some) → Reads c.args.own.bytes.now (Ok (Some c.in-Ok-Some.part))
+own_some c = rw c.in-Ok-Some.field-0-is at c.in-Ok-Some.ensures
 
-abbrev block : After-read → List ℕ
-block r = r.args.block.now
+own_none : (c : In-Ok-None) → Reads c.args.own.bytes.now (Ok None)
+own_none c = rw c.in-Ok-None.field-0-is at c.in-Ok-None.ensures
 
--- a certificate in the first, none in the first, and one in the second
-held : (k : In-Holds) → Reads (own (goal.at.In-Holds k).After-read) (Holds k.in-Holds.from k.in-Holds.to)
-held k = rw k.in-Holds.is at k.read.ensures
+block_some : (c : In-Ok-Some-read) → Reads c.args.block.bytes.now (Ok (Some c.in-Ok-Some-read.part))
+block_some c = rw c.in-Ok-Some-read.field-0-is at c.in-Ok-Some-read.ensures
 
-none_held : (r : After-read-in-Empty) → Reads (own (goal.at.After-read-in-Empty r).After-read) Empty
-none_held r = rw r.in-Empty.is at r.read.ensures
+block_none : (c : In-Ok-None-read) → Reads c.args.block.bytes.now (Ok None)
+block_none c = rw c.in-Ok-None-read.field-0-is at c.in-Ok-None-read.ensures
 
-held-other : (k : In-Holds-read) → Reads (block (goal.at.In-Holds-read k).After-read) (Holds k.in-Holds-read.from k.in-Holds-read.to)
-held-other k = rw k.in-Holds-read.is at k.read-in-Empty.ensures
+pub found-requires : goal.found-requires
+found-requires c = within c.args.own.bytes.now c.args.own.at c.args.own.small (own_some c)
 
-pub overflow_add-start : goal.overflow_add-start
-overflow_add-start c = omega (arith, within _ _ _ (held (goal.at.overflow_add-start c).In-Holds))
+pub found-requires-in-Ok-Some-read : goal.found-requires-in-Ok-Some-read
+found-requires-in-Ok-Some-read c = within c.args.block.bytes.now c.args.block.at c.args.block.small (block_some c)
 
-pub overflow_add-start-in-Holds : goal.overflow_add-start-in-Holds
-overflow_add-start-in-Holds c = omega (arith, within _ _ _ (held (goal.at.overflow_add-start-in-Holds c).In-Holds))
+pub returns-in-Err : goal.returns-in-Err
+returns-in-Err c = let a = c.args in rw c.into.ensures (out_29 a.own.bytes.now a.own.at a.block.bytes.now a.block.at c.in-Err.ensures)
 
-pub overflow_add-at : goal.overflow_add-at
-overflow_add-at c = omega (arith, within _ _ _ (held-other (goal.at.overflow_add-at c).In-Holds-read))
+pub returns-in-Ok-Some : goal.returns-in-Ok-Some
+returns-in-Ok-Some c =
+    let a = c.args in
+    rw c.found.ensures (out_own a.own.bytes.now a.own.at a.block.bytes.now a.block.at (own_some (goal.at.returns-in-Ok-Some c).In-Ok-Some))
 
-pub overflow_add-at-in-Holds-read : goal.overflow_add-at-in-Holds-read
-overflow_add-at-in-Holds-read c = omega (arith, within _ _ _ (held-other (goal.at.overflow_add-at-in-Holds-read c).In-Holds-read))
+pub returns-in-Err-read : goal.returns-in-Err-read
+returns-in-Err-read c =
+    let a = c.args in
+    rw c.into-in-Err-read.ensures (out_30 a.own.bytes.now a.own.at a.block.bytes.now a.block.at (own_none (goal.at.returns-in-Err-read c).In-Ok-None) c.in-Err-read.ensures)
 
-pub returns-in-Bad : goal.returns-in-Bad
-returns-in-Bad c =
-    rw c.of_neither.ensures (out-29 (own (goal.at.returns-in-Bad c).After-read) _ (block (goal.at.returns-in-Bad c).After-read) _ (rw c.in-Bad.is at c.read.ensures))
+pub returns-in-Ok-Some-read : goal.returns-in-Ok-Some-read
+returns-in-Ok-Some-read c =
+    let a = c.args in
+    rw c.found-in-Ok-Some-read.ensures
+    (out_block a.own.bytes.now a.own.at a.block.bytes.now a.block.at (own_none (goal.at.returns-in-Ok-Some-read c).In-Ok-None) (block_some (goal.at.returns-in-Ok-Some-read c).In-Ok-Some-read))
 
-pub returns-in-Holds : goal.returns-in-Holds
-returns-in-Holds c =
-    rw c.found.ensures (out-own (own (goal.at.returns-in-Holds c).After-read) _ (block (goal.at.returns-in-Holds c).After-read) _ _ _ (held (goal.at.returns-in-Holds c).In-Holds))
-
-pub returns-in-Bad-read : goal.returns-in-Bad-read
-returns-in-Bad-read c =
-    rw c.of_neither-in-Bad-read.ensures (out-30 (own (goal.at.returns-in-Bad-read c).After-read) _ (block (goal.at.returns-in-Bad-read c).After-read) _ (none_held (goal.at.returns-in-Bad-read c).After-read-in-Empty) (rw c.in-Bad-read.is at c.read-in-Empty.ensures))
-
-pub returns-in-Holds-read : goal.returns-in-Holds-read
-returns-in-Holds-read c =
-    rw c.found-in-Holds-read.ensures (out-block (own (goal.at.returns-in-Holds-read c).After-read) _ (block (goal.at.returns-in-Holds-read c).After-read) _ (none_held (goal.at.returns-in-Holds-read c).After-read-in-Empty) _ _ (held-other (goal.at.returns-in-Holds-read c).In-Holds-read))
-
-pub returns-in-Empty-read : goal.returns-in-Empty-read
-returns-in-Empty-read c =
-    rw c.of_neither-in-Empty-read.ensures (out-31 (own (goal.at.returns-in-Empty-read c).After-read) _ (block (goal.at.returns-in-Empty-read c).After-read) _ (none_held (goal.at.returns-in-Empty-read c).After-read-in-Empty) (rw c.in-Empty-read.is at c.read-in-Empty.ensures))
+pub returns-in-Ok-None-read : goal.returns-in-Ok-None-read
+returns-in-Ok-None-read c =
+    let a = c.args in
+    rw c.into-in-Ok-None-read.ensures
+    (out_31 a.own.bytes.now a.own.at a.block.bytes.now a.block.at (own_none (goal.at.returns-in-Ok-None-read c).In-Ok-None) (block_none (goal.at.returns-in-Ok-None-read c).In-Ok-None-read))

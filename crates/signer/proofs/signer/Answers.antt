@@ -1,32 +1,19 @@
 -- `signer::signer` meets its contract: the part of the container that it lies in. Assumes nothing.
+use mathlib.Core.Path.{sym, ◌∙◌}
 use native.Mathlib.Omega.{arith}
-use Rattle.signer.proofs.Handing.{ordered, of-chuid, of-biometric}
+use Rattle.signer.proofs.Handing.{of_chuid, of_biometric}
 use Rattle.signer.proofs.signer.Goals as goal
 
-pub slice_bounds-result-count : goal.slice_bounds-result-count
-slice_bounds-result-count c = ordered c.locate-part.ensures
-
-pub slice_bounds-result-start : goal.slice_bounds-result-start
-slice_bounds-result-start c = ordered c.locate-part.ensures
-
-pub slice_bounds-result-end : goal.slice_bounds-result-end
-slice_bounds-result-end c = omega (arith, rw c.if-verdict-of.true at c.locate-part.ensures.inside)
-
-pub returns-then-verdict-of : goal.returns-then-verdict-of
-returns-then-verdict-of c =
+pub returns-in-Chuid : goal.returns-in-Chuid
+returns-in-Chuid c =
     let a = c.args in
-    of-chuid c.locate-part.ensures a.chuid.ref_ptr a.biometric.ref_ptr _ c.tag_number.ensures c.if-verdict-of.true _ (omega arith)
+    let t = c.told-of.ensures in
+    rw (c.tag_number.ensures, t.verdict, t.which, t.part.0, t.part.1)
+    (of_chuid c.locate-answer.ensures a.chuid.ref_ptr a.biometric.ref_ptr (sym c.lies_in.ensures ∙ c.in-Chuid.is) _ (omega arith))
 
-pub slice_bounds-result-count-2 : goal.slice_bounds-result-count-2
-slice_bounds-result-count-2 c = ordered c.locate-part.ensures
-
-pub slice_bounds-result-start-2 : goal.slice_bounds-result-start-2
-slice_bounds-result-start-2 c = ordered c.locate-part.ensures
-
-pub slice_bounds-result-end-2 : goal.slice_bounds-result-end-2
-slice_bounds-result-end-2 c = omega (arith, rw c.if-verdict-of.false at c.locate-part.ensures.inside)
-
-pub returns : goal.returns
-returns c =
+pub returns-in-Biometric : goal.returns-in-Biometric
+returns-in-Biometric c =
     let a = c.args in
-    of-biometric c.locate-part.ensures a.chuid.ref_ptr a.biometric.ref_ptr _ c.tag_number.ensures c.if-verdict-of.false _ (omega arith)
+    let t = c.told-of.ensures in
+    rw (c.tag_number.ensures, t.verdict, t.which, t.part.0, t.part.1)
+    (of_biometric c.locate-answer.ensures a.chuid.ref_ptr a.biometric.ref_ptr (sym c.lies_in.ensures ∙ c.in-Biometric.is) _ (omega arith))

@@ -1,7 +1,7 @@
 -- `texts::put_count` meets its contract: its pieces stand one after the other. Assumes nothing.
+use Rattle.std.proofs.Common.{rules}
 use Rattle.laws.proofs.Rooms.{then}
 use Rattle.texts.proofs.put_count.Goals as goal
 
 pub returns : goal.returns
-returns c =
-    then c.put_all-at.ensures c.put_number.ensures
+returns c = search (rules, then)

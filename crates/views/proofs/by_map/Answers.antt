@@ -1,39 +1,22 @@
--- `views::by_map` meets its contract. Assumes nothing.
+-- `views::by_map` meets its contract: the row is one of the table's. Assumes nothing.
 use Prim.Native.Nat.{◌≤◌}
 use mathlib.Core.Path.{sym, ◌∙◌}
 use native.Mathlib.Omega.{arith}
-use borrow.Author.Tests.{eq-eqb, ne_eqb}
 use Rattle.kinds.proofs.Every.{row_number}
 use Rattle.views.proofs.by_map.Goals as goal
-use Rattle.views.proofs.by_map.Goals.{In-At}
+use Rattle.views.proofs.by_map.Goals.{In_ok-row}
 
--- the row is one of the table's
-numbered : (k : In-At) → (1 ≤ k.in-At.index) × (k.in-At.index ≤ 15)
-numbered k = row_number k.args.kind k.args.element (sym k.row_of.ensures ∙ k.in-At.is)
+numbered : (k : In_ok-row) → (1 ≤ k.in_ok-row.row.index) × (k.in_ok-row.row.index ≤ 15)
+numbered k = row_number k.args.kind k.args.element (sym k.row_of.ensures ∙ k.in_ok-row.was)
 
-pub returns-then-to-eq0 : goal.returns-then-to-eq0
-returns-then-to-eq0 c =
-    rw (← c.row_of.ensures, c.in-At.is, eq-eqb _ _ c.if-to-eq0.true) c.absent-then-to-eq0.ensures
+pub overflow_sub-from : goal.overflow_sub-from
+overflow_sub-from c = omega (arith, numbered (goal.at.overflow_sub-from c).In_ok-row)
 
-pub returns-in-Missing : goal.returns-in-Missing
-returns-in-Missing c =
-    rw (← c.row_of.ensures, c.in-Missing.is) c.absent.ensures
+pub offset_bounds-rows-row : goal.offset_bounds-rows-row
+offset_bounds-rows-row c = omega (arith, numbered (goal.at.offset_bounds-rows-row c).In_ok-row)
 
-pub returns-else-to-eq0 : goal.returns-else-to-eq0
-returns-else-to-eq0 c =
-    rw (← c.row_of.ensures, c.in-At.is, ne_eqb _ _ c.if-to-eq0.false)
+pub bounds-rows-row : goal.bounds-rows-row
+bounds-rows-row c = omega (arith, numbered (goal.at.bounds-rows-row c).In_ok-row)
 
-pub overflow_sub-row : goal.overflow_sub-row
-overflow_sub-row c = omega (arith, numbered (goal.at.overflow_sub-row c).In-At)
-
-pub offset_bounds-tos-row : goal.offset_bounds-tos-row
-offset_bounds-tos-row c = omega (arith, numbered (goal.at.offset_bounds-tos-row c).In-At)
-
-pub bounds-tos-row : goal.bounds-tos-row
-bounds-tos-row c = omega (arith, numbered (goal.at.bounds-tos-row c).In-At)
-
-pub offset_bounds-froms-row : goal.offset_bounds-froms-row
-offset_bounds-froms-row c = omega (arith, numbered (goal.at.offset_bounds-froms-row c).In-At)
-
-pub bounds-froms-row : goal.bounds-froms-row
-bounds-froms-row c = omega (arith, numbered (goal.at.bounds-froms-row c).In-At)
+pub bounds-rows-row-2 : goal.bounds-rows-row-2
+bounds-rows-row-2 c = omega (arith, numbered (goal.at.bounds-rows-row-2 c).In_ok-row)

@@ -1,5 +1,0 @@
--- `summary::refused` meets its contract. Assumes nothing.
-use Rattle.summary.proofs.refused.Goals as goal
-
-pub returns : goal.returns
-returns c = rw c.number_of.ensures
