@@ -2,15 +2,17 @@
 // personal": no other row is taken out of the container here. Where the room ends, so does the text.
 #![tactic(auto)]
 
-ghost use Rattle.std.specs.Prelude.{◌≡◌, ◌++◌, unwrap_or};
+ghost use Rattle.std.specs.Prelude.{◌≡◌, ◌++◌, unwrap_or, ℕ, length};
 ghost use Rattle.laws.specs.Room.{Put};
 ghost use Rattle.texts.specs.Text.{ascii, digits_line};
 ghost use Rattle.fascn.specs.Reading.{origin_of};
 ghost use Rattle.dates.specs.Date.{date_of};
-ghost use Rattle.container.specs.Judged.{contents};
+ghost use Rattle.kinds.specs.Tables.{table};
+ghost use Rattle.container.specs.Container.{Allowed};
+ghost use Rattle.container.specs.Map.{row_values};
 ghost use Rattle.opens.specs.Open.{holder, card, policy, issuer, in_header, open_of, open_part};
 
-use container::Conforming;
+use container::Rows;
 use fascn::Origin;
 
 // The FASC-N of a biometric record stands at 59 of the value of BC.
@@ -72,15 +74,16 @@ fn put_biometric(v: &[u8], out: &mut [u8]) -> usize
 
 // "CCC `model 10`"; of SECURITY and of the certificates nothing; the others from the values of the rows that are open, by their
 // numbers from 0: a container that conforms has them, and so an expiry that is a date, and a FASC-N that is one.
-pub fn put_open(c: Conforming, out: &mut [u8]) -> usize
-    ensures { Put (open_part (open_of c.entry.kind (contents c.entry))) out.old out.new result }
+pub fn put_open(kind: u64, rows: Rows<'_>, out: &mut [u8]) -> usize
+    requires { (today : ℕ) × Allowed today (table kind) (row_values rows.spans rows.bytes.now (length (table kind)) 0) }
+    ensures { Put (open_part (open_of kind (row_values rows.entry.spans rows.entry.bytes.now (length (table kind)) 0))) out.old out.new result }
 {
-    match c.kind {
+    match kind {
         1 => room::put_all(b"OPEN 1\nmodel 10\n", out),
-        2 => put_chuid(c.rows.part(1), c.rows.part(5), out),
-        3 => put_policy(c.rows.part(1), out),
-        4 => put_issuer(c.rows.part(4), out),
-        6 | 7 | 12 => put_biometric(c.rows.part(0), out),
+        2 => put_chuid(rows.part(1), rows.part(5), out),
+        3 => put_policy(rows.part(1), out),
+        4 => put_issuer(rows.part(4), out),
+        6 | 7 | 12 => put_biometric(rows.part(0), out),
         _ => room::put_all(b"OPEN 0\n", out),
     }
 }

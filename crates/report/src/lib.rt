@@ -19,7 +19,7 @@ fn put_fine(c: Conforming, out: &mut [u8]) -> usize
 {
     let mut at = card::put_card(c.kind, c.rows.bytes.len(), c.today, Ok(()), out);
     at += elements::put_elements(c.kind, &c.rows.spans, &mut out[at..]);
-    at + opens::put_open(c, &mut out[at..])
+    at + opens::put_open(c.kind, c.rows, &mut out[at..])
 }
 
 // "A broken rule gives a report with ELEMENTS 0 and OPEN 0."
