@@ -1,11 +1,13 @@
 //! The calls of Prosianek and of the independent Rust program on the same inputs. bench/run builds and runs this.
 //!
-//!     bench count                    makes each call once between the markers of icount.c; run under QEMU with that plugin
-//!     bench time                     prints nanoseconds a call, a line each
+//!     bench strings STRINGS          writes the million FASC-N into a file, for the next two: an emulator is slow to make them
+//!     bench count STRINGS            makes each call once between the markers of icount.c; run under QEMU with that plugin
+//!     bench time STRINGS             prints nanoseconds a call, a line each
 //!     bench tables COUNTS [TIMES]    prints the tables of what the plugin and `bench time` wrote
 //!     bench where COUNTS             prints which functions the instructions are in, the worst ratio first
 //!
-//! All go over the same cases in the same order, for each first Prosianek, then Rust.
+//! The last four go over the same cases in the same order, for each first Prosianek, then Rust, and then over the FASC-N: all of
+//! them and the good ones alone, each by the first reader, by the second and by Rust.
 
 use second::card::{all_kinds, kind_of, Rule, CONFORMS};
 use second::faces::{facial, Image};
@@ -19,14 +21,15 @@ use second::trees::{certificate_of_pairs, Tree};
 use second::values::IRIS_MOST_BYTES;
 use second::{number, tag_number, Which};
 use std::arch::asm;
+use std::mem::size_of;
 use std::ops::{Deref, DerefMut, Range};
 use std::time::Instant;
 
 #[path = "../examples/rust/prosianek.rs"]
 mod prosianek;
-use prosianek::{prosianek_check, prosianek_fascn_decode, prosianek_fascn_encode};
+use prosianek::{prosianek_check, prosianek_fascn_decode, prosianek_fascn_decode_by_table, prosianek_fascn_encode};
 use prosianek::{prosianek_folder_end, prosianek_folder_step, prosianek_last, prosianek_row};
-use prosianek::{prosianek_lists, prosianek_report, prosianek_signer, prosianek_write};
+use prosianek::{prosianek_lists, prosianek_report, prosianek_signer, prosianek_write, Decoded, FASCN_BYTES};
 
 const TODAY: u64 = 2026_03_01;
 const LARGEST: usize = second::CONTAINER_MAX;
@@ -112,6 +115,7 @@ enum Call {
     Lists,
     Signer,
     Decode,
+    ByTable,
     Encode,
     /// Going over a folder, all its rows with the last lines, and one row.
     Over,
@@ -182,7 +186,13 @@ fn five_lists(room: &mut [u8]) -> [&mut [u64]; 5] {
 
 /// The room of five lists with so many entries each.
 fn room_of_lists(entries: usize) -> usize {
-    5 * entries * std::mem::size_of::<u64>()
+    5 * entries * size_of::<u64>()
+}
+
+/// The room as a list of what is said of FASC-N. It starts where the room does.
+fn list_in(room: &mut [u8]) -> &mut [Decoded] {
+    let (_, list, _) = unsafe { room.align_to_mut::<Decoded>() };
+    list
 }
 
 /// A folder is gone over in pieces of so many bytes, as a program reads a file.
@@ -299,6 +309,11 @@ fn prosianek(case: &Case, room: &mut [u8], meter: &mut impl Meter) -> Vec<u64> {
                 meter.measure(|| prosianek_signer(kind, today, chuid, chuid_size, input, size, p, t, w, o, l))
             }
             Call::Decode => meter.measure(|| prosianek_fascn_decode(input, size, &mut numbers)),
+            Call::ByTable => {
+                let list = list_in(room);
+                let (to, entries) = (list.as_mut_ptr(), list.len());
+                meter.measure(|| prosianek_fascn_decode_by_table(input, size, to, entries))
+            }
             Call::Encode => meter.measure(|| prosianek_fascn_encode(&case.numbers, to, room_size)),
             Call::Over => meter.measure(|| prosianek_over(today, &case.input)),
             Call::Rows => {
@@ -354,6 +369,11 @@ fn rust(case: &Case, room: &mut [u8], meter: &mut impl Meter) -> Vec<u64> {
             let (number, decoded) = meter.measure(|| second::fascn_decode(input));
             numbers = decoded;
             (number, 0, 0, 0, 0)
+        }
+        Call::ByTable => {
+            let list = list_in(room);
+            meter.measure(|| rust_reader(input, list));
+            (0, 0, 0, 0, 0)
         }
         Call::Encode => (meter.measure(|| second::fascn_encode(&case.numbers, room)), 0, 0, 0, 0),
         Call::Over => (meter.measure(|| rust_over(today, input)), 0, 0, 0, 0),
@@ -640,7 +660,11 @@ fn fascn_cases() -> Vec<Case> {
         room,
         number: 0,
     };
-    vec![case("decode", Call::Decode, 0), case("encode", Call::Encode, fascn.len())]
+    vec![
+        case("decode", Call::Decode, 0),
+        case("decode by table", Call::ByTable, size_of::<Decoded>()),
+        case("encode", Call::Encode, fascn.len()),
+    ]
 }
 
 /// A folder of as many containers as there may be: the samples in turn, of which some break a rule, and one that is too long. It is
@@ -743,9 +767,126 @@ fn tables() -> Vec<(&'static str, Vec<Case>)> {
 }
 
 // ---------------------------------------------------------------------------------------------
+// A million FASC-N, by three readers
+
+/// What second::strings makes them from.
+const SEED: u64 = 2026_09;
+
+/// The strings are lent in batches of so many, and a list of as many entries is used again for each batch.
+const BATCH: usize = 1_000;
+
+/// Instructions are counted over the first strings alone, and over the first good ones, since the emulator is slow.
+const COUNTED: usize = 20_000;
+
+/// Each reader goes over the strings so often. An odd number has a median.
+const PASSES: usize = 15;
+
+/// Reads strings into a list with an entry for each.
+type Reader = fn(&[u8], &mut [Decoded]);
+
+const READERS: [Reader; 3] = [first_reader, second_reader, rust_reader];
+
+/// Which of the strings are read.
+const SETS: [&str; 2] = ["all", "good"];
+
+/// Prosianek's plain engine: a call for each string.
+fn first_reader(strings: &[u8], list: &mut [Decoded]) {
+    for (string, entry) in strings.chunks_exact(FASCN_BYTES).zip(list) {
+        entry.number = unsafe { prosianek_fascn_decode(string.as_ptr(), string.len(), &mut entry.numbers) };
+    }
+}
+
+/// Prosianek's reader by table: one call.
+fn second_reader(strings: &[u8], list: &mut [Decoded]) {
+    let (to, entries) = (list.as_mut_ptr(), list.len());
+    let number = unsafe { prosianek_fascn_decode_by_table(strings.as_ptr(), strings.len(), to, entries) };
+    assert!(number == 0, "a batch is refused: {}", number);
+}
+
+/// The Rust program: its decoder in a loop.
+fn rust_reader(strings: &[u8], list: &mut [Decoded]) {
+    for (string, entry) in strings.chunks_exact(FASCN_BYTES).zip(list) {
+        let (number, numbers) = second::fascn_decode(string);
+        *entry = Decoded { number, numbers };
+    }
+}
+
+fn list_room() -> Bytes {
+    Bytes::filled(0xA5, BATCH * size_of::<Decoded>())
+}
+
+fn batches(strings: &[u8]) -> impl Iterator<Item = &[u8]> {
+    strings.chunks(BATCH * FASCN_BYTES)
+}
+
+/// All strings by one reader, batch by batch.
+fn read_all(reader: Reader, strings: &[u8], list: &mut [Decoded]) {
+    for batch in batches(strings) {
+        let list = &mut list[..batch.len() / FASCN_BYTES];
+        reader(batch, list);
+        keep(&list);
+    }
+}
+
+/// The strings of the file and the good ones among them, of each the first ones, at most so many. The three readers say the same
+/// of every one of them.
+fn sets_of(path: &str, most: usize) -> [Bytes; 2] {
+    let strings = std::fs::read(path).unwrap_or_else(|error| panic!("{}: {}", path, error));
+    let each = || strings.chunks_exact(FASCN_BYTES);
+    let all: Vec<&[u8]> = each().take(most).collect();
+    let good: Vec<&[u8]> = each().filter(|string| second::fascn_decode(string).0 == number::DONE).take(most).collect();
+    let sets = [all, good].map(|set| Bytes::of(&set.concat()));
+    sets.iter().for_each(|set| agree_on(set));
+    sets
+}
+
+fn agree_on(strings: &[u8]) {
+    let mut rooms = READERS.map(|_| list_room());
+    for (i, batch) in batches(strings).enumerate() {
+        for (reader, room) in READERS.iter().zip(&mut rooms) {
+            reader(batch, &mut list_in(room)[..batch.len() / FASCN_BYTES]);
+        }
+        assert!(rooms.iter().all(|room| room[..] == rooms[0][..]), "batch {} of the FASC-N: the answers differ", i);
+    }
+}
+
+fn count_strings(path: &str) {
+    let mut room = list_room();
+    for set in &sets_of(path, COUNTED) {
+        assert!(set.len() == COUNTED * FASCN_BYTES, "under {} FASC-N to count", COUNTED);
+        for reader in READERS {
+            Counted.measure(|| read_all(reader, set, list_in(&mut room)));
+        }
+    }
+}
+
+/// The readers in turn; for each set and each reader the nanoseconds a string, pass by pass.
+fn time_strings(path: &str) {
+    let (sets, mut room) = (sets_of(path, usize::MAX), list_room());
+    let mut times = vec![Vec::new(); SETS.len() * READERS.len()];
+    for _ in 0..PASSES {
+        let mut times = times.iter_mut();
+        for set in &sets {
+            for reader in READERS {
+                let mut once = Timed { calls: 1, best: f64::MAX };
+                once.measure(|| read_all(reader, set, list_in(&mut room)));
+                times.next().unwrap().push(once.best / (set.len() / FASCN_BYTES) as f64);
+            }
+        }
+    }
+    for passes in times {
+        println!("{}", passes.iter().map(f64::to_string).collect::<Vec<_>>().join(" "));
+    }
+}
+
+// ---------------------------------------------------------------------------------------------
 // The commands
 
-fn count() {
+fn make_strings(path: &str) {
+    std::fs::write(path, second::strings::million(SEED)).unwrap_or_else(|error| panic!("{}: {}", path, error));
+}
+
+fn count(strings: &str) {
     Counted.measure(|| ());
     for case in tables().iter().flat_map(|(_, cases)| cases) {
         agree(case);
@@ -753,11 +894,12 @@ fn count() {
         prosianek(case, &mut room, &mut Counted);
         rust(case, &mut room, &mut Counted);
     }
+    count_strings(strings);
 }
 
 /// The two sides in turn, in rounds of some 20 microseconds; the best round counts. There are ten passes over all cases, so that
 /// what disturbs the machine for a moment spoils no case.
-fn time() {
+fn time(strings: &str) {
     let mut timed = Vec::new();
     for case in tables().into_iter().flat_map(|(_, cases)| cases) {
         agree(&case);
@@ -778,6 +920,7 @@ fn time() {
     for (_, _, first, second) in timed {
         println!("{}\n{}", first.best, second.best);
     }
+    time_strings(strings);
 }
 
 fn lines(path: &str) -> Vec<String> {
@@ -790,10 +933,21 @@ fn numbers(path: &str) -> Vec<f64> {
     lines(path).iter().map(|line| line.split(' ').next().unwrap().parse().unwrap()).collect()
 }
 
-/// Instructions a call by Prosianek and by Rust, for each case: the first count is that of nothing between the markers.
-fn pairs(counts: &str) -> Vec<(f64, f64)> {
+/// The instructions of each interval: the first count is that of nothing between the markers.
+fn instructions(counts: &str) -> Vec<f64> {
     let counts = numbers(counts);
-    counts[1..].chunks_exact(2).map(|pair| (pair[0] - counts[0], pair[1] - counts[0])).collect()
+    counts[1..].iter().map(|count| count - counts[0]).collect()
+}
+
+/// What stands behind the cases: of each set of FASC-N, the three readers'.
+fn behind_cases<A>(list: &[A]) -> std::slice::Chunks<'_, A> {
+    list[list.len() - SETS.len() * READERS.len()..].chunks(READERS.len())
+}
+
+/// The nanoseconds a string, pass by pass, in the last lines of the times.
+fn passes(times: &str) -> Vec<Vec<f64>> {
+    let numbers = |line: &String| line.split(' ').map(|number| number.parse().unwrap()).collect();
+    behind_cases(&lines(times)).flatten().map(numbers).collect()
 }
 
 fn commas(number: u64) -> String {
@@ -804,8 +958,12 @@ fn commas(number: u64) -> String {
 }
 
 fn print_tables(counts: &str, times: Option<&str>) {
-    let mut counts = pairs(counts).into_iter();
-    let times = times.map(numbers);
+    print_cases(&instructions(counts), times.map(numbers));
+    print_strings(&instructions(counts), times.map(passes));
+}
+
+fn print_cases(counts: &[f64], times: Option<Vec<f64>>) {
+    let mut counts = counts.chunks_exact(2);
     let mut times = times.as_ref().map(|times| times.chunks_exact(2));
     for (title, cases) in tables() {
         println!("### {}\n", title);
@@ -813,7 +971,8 @@ fn print_tables(counts: &str, times: Option<&str>) {
         println!("{}", if times.is_some() { " Rattle, ns | Rust, ns | Ratio |" } else { "" });
         println!("|---|---|--:|--:|--:|{}", if times.is_some() { "--:|--:|--:|" } else { "" });
         for case in cases {
-            let (rattle, rust) = counts.next().unwrap();
+            let pair = counts.next().unwrap();
+            let (rattle, rust) = (pair[0], pair[1]);
             print!("| {} | {} ", case.what, case.name);
             print!("| {} | {} | {:.2} |", commas(rattle as u64), commas(rust as u64), rattle / rust);
             if let Some(times) = &mut times {
@@ -824,6 +983,64 @@ fn print_tables(counts: &str, times: Option<&str>) {
         }
         println!();
     }
+}
+
+/// The table of the FASC-N. A ratio of instructions or nanoseconds is better the smaller it is, one of strings a second the larger.
+fn print_strings(counts: &[f64], times: Option<Vec<Vec<f64>>>) {
+    println!("### A million FASC-N\n");
+    println!("| Strings | Measured | First reader | Second reader | Rust | Second to first | Second to Rust |");
+    println!("|---|---|--:|--:|--:|--:|--:|");
+    let mut times = times.as_ref().map(|times| times.chunks(READERS.len()));
+    for (set, counts) in SETS.iter().zip(behind_cases(counts)) {
+        let each: Vec<f64> = counts.iter().map(|count| count / COUNTED as f64).collect();
+        print_row(set, "instructions a string", &each, whole);
+        if let Some(times) = &mut times {
+            print_times(set, times.next().unwrap());
+        }
+    }
+    println!();
+}
+
+fn whole(number: f64) -> String {
+    commas(number.round() as u64)
+}
+
+/// The best pass of each reader, and how far the passes are from each other.
+fn print_times(set: &str, passes: &[Vec<f64>]) {
+    let best: Vec<f64> = passes.iter().map(|times| sorted(times)[0]).collect();
+    let rates: Vec<f64> = best.iter().map(|time| 1e9 / time).collect();
+    print_row(set, "nanoseconds a string, best pass", &best, |number| format!("{:.1}", number));
+    print_row(set, "strings a second, best pass", &rates, whole);
+    print_spread(set, passes);
+}
+
+/// What was measured of the three readers, and the second's by the first's and by Rust's.
+fn print_row(set: &str, what: &str, of: &[f64], text: impl Fn(f64) -> String) {
+    print!("| {} | {} | {} | {} | {} ", set, what, text(of[0]), text(of[1]), text(of[2]));
+    println!("| {:.2} | {:.2} |", of[1] / of[0], of[1] / of[2]);
+}
+
+/// The smallest and the largest time of the passes as parts of their median, and the smallest and the largest ratio, each of two
+/// times of one pass.
+fn print_spread(set: &str, passes: &[Vec<f64>]) {
+    print!("| {} | nanoseconds of all passes, by their median ", set);
+    for times in passes {
+        let times = sorted(times);
+        let median = times[times.len() / 2];
+        print!("| {:.2} to {:.2} ", times[0] / median, times[times.len() - 1] / median);
+    }
+    for other in [0, 2] {
+        let ratios: Vec<f64> = passes[1].iter().zip(&passes[other]).map(|(second, other)| second / other).collect();
+        let ratios = sorted(&ratios);
+        print!("| {:.2} to {:.2} ", ratios[0], ratios[ratios.len() - 1]);
+    }
+    println!("|");
+}
+
+fn sorted(numbers: &[f64]) -> Vec<f64> {
+    let mut numbers = numbers.to_vec();
+    numbers.sort_unstable_by(|one, other| one.partial_cmp(other).unwrap());
+    numbers
 }
 
 fn print_where(counts: &str) {
@@ -837,26 +1054,33 @@ fn print_where(counts: &str) {
         list.sort_unstable_by(|one, other| other.cmp(one));
         list.iter().map(|(count, name)| format!("{} {}", name, count)).collect::<Vec<_>>().join(", ")
     };
-    let (pairs, lines) = (pairs(counts), lines(counts));
+    let (counts, lines) = (instructions(counts), lines(counts));
     let cases: Vec<Case> = tables().into_iter().flat_map(|(_, cases)| cases).collect();
-    let ratio = |i: usize| pairs[i].0 / pairs[i].1;
+    let ratio = |i: usize| counts[2 * i] / counts[2 * i + 1];
     let mut order: Vec<usize> = (0..cases.len()).collect();
     order.sort_by(|&one, &other| ratio(other).partial_cmp(&ratio(one)).unwrap());
     for i in order {
-        println!("{:.2} {}, {}: {} to {}", ratio(i), cases[i].what, cases[i].name, pairs[i].0, pairs[i].1);
+        println!("{:.2} {}, {}: {} to {}", ratio(i), cases[i].what, cases[i].name, counts[2 * i], counts[2 * i + 1]);
         println!("    Rattle: {}", functions(&lines[1 + 2 * i]));
         println!("    Rust: {}", functions(&lines[2 + 2 * i]));
+    }
+    for (set, lines) in SETS.iter().zip(behind_cases(&lines)) {
+        println!("{} FASC-N, {}", commas(COUNTED as u64), set);
+        for (name, line) in ["First reader", "Second reader", "Rust"].iter().zip(lines) {
+            println!("    {}: {}", name, functions(line));
+        }
     }
 }
 
 fn main() {
     let arguments: Vec<String> = std::env::args().skip(1).collect();
     match arguments.iter().map(|word| &word[..]).collect::<Vec<_>>()[..] {
-        ["count"] => count(),
-        ["time"] => time(),
+        ["strings", strings] => make_strings(strings),
+        ["count", strings] => count(strings),
+        ["time", strings] => time(strings),
         ["tables", counts] => print_tables(counts, None),
         ["tables", counts, times] => print_tables(counts, Some(times)),
         ["where", counts] => print_where(counts),
-        _ => panic!("usage: bench count | time | tables COUNTS [TIMES] | where COUNTS"),
+        _ => panic!("usage: bench strings STRINGS | count STRINGS | time STRINGS | tables COUNTS [TIMES] | where COUNTS"),
     }
 }

@@ -1,6 +1,6 @@
-// The twelve calls of Prosianek for C and C++: PIV card data containers (SP 800-73-4) checked and read, written, viewed and
-// reported, the points of a FINGERS container as lists, the certificate of a biometric's signer, FASC-N numbers alone, and the
-// summary of an order's folder, a file of containers.
+// The thirteen calls of Prosianek for C and C++: PIV card data containers (SP 800-73-4) checked and read, written, viewed and
+// reported, the points of a FINGERS container as lists, the certificate of a biometric's signer, FASC-N numbers alone, one or
+// many at once, and the summary of an order's folder, a file of containers.
 // crates/capi/src/lib.rt of the repository has the functions with their contracts. They are in libprosianek.a, which links into
 // x86-64 programs and needs only the C library's memory functions:
 //     cc program.c $(pkg-config --cflags --libs prosianek)
@@ -11,20 +11,20 @@
 // from one call to the next is a state that the caller lends.
 //
 // What a C caller owes, because nothing on this side of the border can check it:
-//   - a pointer is not null, also where its size is 0: lend any byte there, or any number for a list;
+//   - a pointer is not null, also where its size is 0: lend any byte there, or any number or entry for a list;
 //   - a uint8_t pointer with a size, in the calls of a folder with a length, is valid for so many bytes, and a list, a uint64_t
-//     pointer with a size, for so many numbers: to read where it is const, else to read and write. The earlier contents of a room
-//     or a list do not matter, but they have to be there to be cleared;
+//     pointer or one to struct prosianek_decoded with a size, for so many numbers or entries: to read where it is const, else to
+//     read and write. The earlier contents of a room or a list do not matter, but they have to be there to be cleared;
 //   - any other uint64_t pointer is valid for one number, or for as many as the parameter says, [9] or [3], and fascn[25] for 25
 //     bytes;
-//   - every uint64_t pointer is aligned as usual, that of a list of size 0 too;
+//   - every pointer to uint64_t or to struct prosianek_decoded is aligned as usual, that of a list of size 0 too;
 //   - the rooms, the lists, the lent numbers and the states of one call do not overlap each other, nor the call's input.
 // If one of these fails, no promise holds.
 //
 // The number that each call answers is one of enum prosianek_number; prosianek_folder_step alone answers none. A call writes each
 // of its lent numbers on every answer, but a refusal leaves the state of a folder as it was. A refusal (any number but 0) leaves
-// the lent room, or each lent list, all zeros; a success leaves zeros after the last byte of output, or after the last point. So
-// the rest of a room or a list never shows what an earlier call left there.
+// the lent room, or each lent list, all zeros; a success leaves zeros after the last byte of output, after the last point, or
+// after the entry of the last FASC-N. So the rest of a room or a list never shows what an earlier call left there.
 #ifndef PROSIANEK_H
 #define PROSIANEK_H
 
@@ -90,7 +90,7 @@ enum prosianek_number {
     PROSIANEK_TAG_ORDER = 14,       // the row is that of the element before, or an earlier one
     PROSIANEK_MISSING_ROW = 15,     // a mandatory row is passed over, or missing at the end
     PROSIANEK_ELEMENT_LENGTH = 16,  // the length of an element
-    PROSIANEK_BAD_FASCN = 17,       // FASC-N
+    PROSIANEK_BAD_FASCN = 17,       // FASC-N, or of many: bytes left over
     PROSIANEK_BAD_UUID = 18,        // UUID
     PROSIANEK_BAD_DATE = 19,        // a date in text (35: 20300131, 04: 2030JAN31), or an expiry outside its window
     PROSIANEK_BAD_FIXED = 20,       // another fixed value, or the policy
@@ -223,8 +223,27 @@ uint64_t prosianek_signer(uint64_t kind, uint64_t today, const uint8_t *chuid, s
 // neighbouring bits of the 200, is always 17; within seven it may be another good one.
 uint64_t prosianek_fascn_decode(const uint8_t *bytes, size_t size, uint64_t numbers[9]);
 
+// What prosianek_fascn_decode_by_table says of one FASC-N: number is 0 or 17, and numbers are the nine, as prosianek_fascn_decode
+// answers. The nine are 0 where number is 17.
+struct prosianek_decoded {
+    uint64_t number;
+    uint64_t numbers[9];
+};
+
+// The nine numbers of each of many FASC-N, by a second reader, which takes ten bits at once through a table. What it says of each
+// is what prosianek_fascn_decode, the plain engine, answers of that one alone, which is proved: two readers, one meaning.
+//   strings  the FASC-N, PROSIANEK_FASCN_BYTES each, one behind the other; strings_size the bytes of all of them, which may be 0.
+//   list     lent: entry i is of string i, counted from 0. list_size is how many entries it has room for; the next call may be lent
+//            the same list.
+// Answers 0 if each string has its entry, also one that is no FASC-N: its entry's number tells that. Else 17 if strings_size is
+// no multiple of 25, so that bytes are left over, then 3 if the list has room for fewer entries than there are strings. The list
+// then holds the entries and zeros; on a refusal all zeros. There is a FASC-N whose nine numbers are 0: its entry is all zeros,
+// too, so that only the answer and how many strings there are tell which entries mean something.
+uint64_t prosianek_fascn_decode_by_table(const uint8_t *strings, size_t strings_size, struct prosianek_decoded *list,
+                                         size_t list_size);
+
 // The FASC-N of nine numbers.
-//   numbers  in the order above, of at most 4, 4, 6, 1, 1, 10, 1, 4 and 1 digits.
+//   numbers  in the order of prosianek_fascn_decode, of at most 4, 4, 6, 1, 1, 10, 1, 4 and 1 digits.
 //   room     the lent room, size its size, at least PROSIANEK_FASCN_BYTES.
 // Answers 0; else 7 if a number has too many digits, then 3 for a room under 25 bytes. The room then holds the 25 bytes and
 // zeros; on a refusal all zeros.

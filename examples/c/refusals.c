@@ -1,6 +1,7 @@
 // The refusals, across the border: each call answers its number, its place and its tag, and leaves the room or the lists that
 // it was lent all zeros, whatever stood there before. The signer, which names a container as well, is also tried where it finds
-// a certificate, and the calls of a folder where they are done: what they are lent as a state, a refusal leaves as it was.
+// a certificate, the call for many FASC-N where it fills its list, and the calls of a folder where they are done: what they are
+// lent as a state, a refusal leaves as it was.
 // tests/linking runs it. It prints a line for each answer that is not as it should be, and then the count of calls; the exit
 // status is 0 only if all are right.
 #include <inttypes.h>
@@ -170,6 +171,12 @@ static const uint64_t points[LISTS][3] = {{1, 2, 0}, {16, 16383, 8191}, {16162, 
 // The sizes that are lent: just enough for these points, and no entries.
 static const size_t enough[LISTS] = {3, 3, 3, 3, 3}, empty[LISTS];
 
+// The list that many FASC-N are decoded into, which is lent as the room is, so many entries of it. The strings are three: the
+// first and the last are good, and no two alike.
+enum { STRINGS = 3, DECODED = STRINGS + 3 };
+static struct prosianek_decoded decoded[DECODED];
+static uint8_t strings[STRINGS * PROSIANEK_FASCN_BYTES];
+
 static int calls, bad;
 
 // Before each call: something stale in everything that is lent.
@@ -177,6 +184,7 @@ static void stale(void) {
     memset(room, STALE, sizeof room);
     place = tag = beside = holder = offset = length = first = second = STALE;
     for (int i = 0; i < 9; i++) numbers[i] = STALE;
+    memset(decoded, STALE, sizeof decoded);
     for (int k = 0; k < LISTS; k++)
         for (int i = 0; i < ENTRIES; i++) list[k][i] = STALE;
 }
@@ -918,6 +926,43 @@ static void decode(const char *what, const uint8_t *bytes, size_t size) {
         if (numbers[i] != 0) wrong(what, "a number that is not 0");
 }
 
+// The first `size` bytes of the strings into a list of so many entries. What is filled holds what the first reader answers of each
+// string alone, then come zeros up to the list's end, and nothing is touched behind it; a refusal fills nothing.
+static void by_table(const char *what, size_t size, size_t lent, uint64_t expected) {
+    const size_t bytes = PROSIANEK_FASCN_BYTES, filled = expected == PROSIANEK_DONE ? size / bytes : 0;
+    stale();
+    answers(what, prosianek_fascn_decode_by_table(strings, size, decoded, lent), expected);
+    for (size_t i = 0; i < DECODED; i++) {
+        struct prosianek_decoded entry;
+        memset(&entry, i < lent ? 0 : STALE, sizeof entry);
+        if (i < filled) entry.number = prosianek_fascn_decode(strings + bytes * i, bytes, entry.numbers);
+        if (memcmp(&decoded[i], &entry, sizeof entry) == 0) continue;
+        printf("%s: entry %d is not as it should be\n", what, (int)i);
+        bad = 1;
+    }
+}
+
+// Lists for no strings, for one and for more: the strings that are filled in, and all that is refused, with lists that would do
+// and with shorter ones. Bytes left over come before a short list.
+static void many_at_once(void) {
+    const size_t bytes = PROSIANEK_FASCN_BYTES;
+    static const uint64_t last[9] = {9999, 9999, 999999, 9, 9, 9999999999, 9, 9999, 9};
+    memcpy(strings, chuid + FASCN_AT, bytes);
+    memcpy(strings + bytes, chuid + FASCN_AT, bytes);
+    strings[bytes + 7] ^= 0x10;
+    answers("encode", prosianek_fascn_encode(last, strings + 2 * bytes, bytes), PROSIANEK_DONE);
+    decode("decode, the second string", strings + bytes, bytes);
+
+    for (size_t n = 0; n <= STRINGS; n++) {
+        for (size_t more = 0; more < 3; more++) by_table("decode by table", bytes * n, n + more, PROSIANEK_DONE);
+        for (size_t lent = 0; lent < n; lent++) by_table("decode by table, a short list", bytes * n, lent, PROSIANEK_SMALL_ROOM);
+    }
+    for (size_t n = 0; n < STRINGS; n++)
+        for (size_t over = 1; over < bytes; over++)
+            for (size_t lent = 0; lent < DECODED; lent++)
+                by_table("decode by table, bytes left over", bytes * n + over, lent, PROSIANEK_BAD_FASCN);
+}
+
 static void encode(const char *what, const uint64_t n[9], size_t lent, uint64_t expected) {
     stale();
     answers(what, prosianek_fascn_encode(n, room, lent), expected);
@@ -1018,6 +1063,7 @@ int main(void) {
     decode("decode, 26 bytes", chuid + FASCN_AT, 26);
     decode("decode, other bytes", chuid, 25);
     decode("decode, no bytes", chuid, 0);
+    many_at_once();
 
     printf("%d calls\n", calls);
     return bad;

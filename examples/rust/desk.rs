@@ -6,7 +6,7 @@
 //! Exit status, as that of the desk: 0 if the container conforms; 1 if it breaks a rule, the report or the certificate is
 //! refused, or the calls disagree; 2 for bad words, a file that cannot be read whole, or text that cannot be written.
 mod prosianek;
-use prosianek::{Point, Refused, Which};
+use prosianek::{Decoded, Point, Refused, Which};
 use std::io::{self, Write};
 use std::process::exit;
 
@@ -312,7 +312,7 @@ fn has_sheet(kind: u64, today: u64, container: &[u8], sheet: &[u8]) -> bool {
     verdict == Ok(Some(sheet.len())) && again[..sheet.len()] == *sheet
 }
 
-/// Decodes a FASC-N and encodes it again; whether it came back.
+/// Decodes a FASC-N, by both readers, and encodes it again; whether they say the same and it came back.
 fn there_and_back(out: &mut impl Write, fascn: &[u8]) -> io::Result<bool> {
     let numbers = match prosianek::decode(fascn) {
         Ok(numbers) => numbers,
@@ -326,6 +326,7 @@ fn there_and_back(out: &mut impl Write, fascn: &[u8]) -> io::Result<bool> {
         "decode: agency {:04}, system {:04}",
         numbers[0], numbers[1]
     )?;
+    let alike = by_table(out, fascn, numbers)?;
     let mut room = [0; prosianek::FASCN_BYTES];
     match prosianek::encode(&numbers, &mut room) {
         Err(r) => {
@@ -334,11 +335,25 @@ fn there_and_back(out: &mut impl Write, fascn: &[u8]) -> io::Result<bool> {
         }
         Ok(()) if room[..] == *fascn => {
             writeln!(out, "encode: the FASC-N came back byte for byte")?;
-            Ok(true)
+            Ok(alike)
         }
         Ok(()) => {
             writeln!(out, "encode: the FASC-N did not come back")?;
             Ok(false)
         }
     }
+}
+
+/// Decodes a FASC-N by the second reader, which is for many of them and is handed this one alone; whether it reads the numbers
+/// that the first one did.
+fn by_table(out: &mut impl Write, fascn: &[u8], numbers: [u64; 9]) -> io::Result<bool> {
+    let mut list = [Decoded::default()];
+    if let Err(r) = prosianek::decode_by_table(fascn, &mut list) {
+        refused(out, "decode by table", r)?;
+        return Ok(false);
+    }
+    let alike = list == [Decoded { number: 0, numbers }];
+    let said = if alike { "the same" } else { "other" };
+    writeln!(out, "decode by table: {said} numbers")?;
+    Ok(alike)
 }

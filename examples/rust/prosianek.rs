@@ -1,4 +1,4 @@
-//! The twelve calls of Prosianek for Rust: safe functions over include/prosianek.h, which says more of each. To use them in a
+//! The thirteen calls of Prosianek for Rust: safe functions over include/prosianek.h, which says more of each. To use them in a
 //! project of your own, copy this file, and give rustc the folder of libprosianek.a (`-L native=FOLDER`).
 //!
 //! What C callers have to see to, Rust's references bring: they are valid and never null, and what is lent for writing
@@ -55,6 +55,15 @@ pub struct Point {
     pub y: u64,
     pub angle: u64,
     pub quality: u64,
+}
+
+/// What decode_by_table says of one FASC-N: the number is 0, and the numbers are the nine, in decode's order; or it is 17, and the
+/// nine are 0. The default has zeros alone, as an entry behind the last FASC-N has, and that of a FASC-N whose nine numbers are 0.
+#[repr(C)]
+#[derive(Clone, Copy, Default, PartialEq, Eq, Debug)]
+pub struct Decoded {
+    pub number: u64,
+    pub numbers: [u64; 9],
 }
 
 /// One of the two containers that signer is given.
@@ -164,6 +173,12 @@ extern "C" {
         length: *mut u64,
     ) -> u64;
     pub fn prosianek_fascn_decode(bytes: *const u8, size: usize, numbers: *mut [u64; 9]) -> u64;
+    pub fn prosianek_fascn_decode_by_table(
+        strings: *const u8,
+        strings_size: usize,
+        list: *mut Decoded,
+        list_size: usize,
+    ) -> u64;
     pub fn prosianek_fascn_encode(numbers: *const [u64; 9], room: *mut u8, size: usize) -> u64;
     pub fn prosianek_folder_step(state: *mut [u64; 3], piece: *const u8, piece_length: usize);
     pub fn prosianek_folder_end(today: u64, state: *const [u64; 3]) -> u64;
@@ -385,6 +400,22 @@ pub fn decode(bytes: &[u8]) -> Result<[u64; 9], Refused> {
     let mut numbers = [0; 9];
     let number = unsafe { prosianek_fascn_decode(bytes.as_ptr(), bytes.len(), &mut numbers) };
     answer(number, 0, NO_TAG, numbers)
+}
+
+/// Fills the list with what a second reader says of many FASC-N, 25 bytes each, one behind the other: entry i is of string i, and
+/// what decode says of that one alone, which is proved. A string that is no FASC-N is no refusal: its entry tells that. Entries
+/// behind the last are all zero, and so is the whole list on a refusal: 17 for bytes left over, or then 3 for a list that is
+/// shorter than there are strings. The next call may be lent the same list.
+pub fn decode_by_table(strings: &[u8], list: &mut [Decoded]) -> Result<(), Refused> {
+    let number = unsafe {
+        prosianek_fascn_decode_by_table(
+            strings.as_ptr(),
+            strings.len(),
+            list.as_mut_ptr(),
+            list.len(),
+        )
+    };
+    answer(number, 0, NO_TAG, ())
 }
 
 /// Writes the FASC-N of nine numbers into the room, 25 bytes.

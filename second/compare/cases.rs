@@ -3,12 +3,12 @@
 
 use crate::points::{by_library, by_second, Told};
 use crate::trial::{Fault, Trial};
-use crate::{folder, signer};
+use crate::{folder, signer, strings};
 use second::batch::{Answer, Call, Record};
 use second::folder::Seen;
 use second::generate::plain;
 use second::points::KIND;
-use second::{folders, Point, Which};
+use second::{folders, Decoded, Point, Which};
 use std::collections::BTreeMap;
 use std::fs;
 
@@ -56,6 +56,7 @@ impl Names {
         }
         match call {
             "points" => return self.points(asked, told),
+            "many" => return self.many(asked, told),
             "folder" => return self.folder(asked, told),
             "row" => return self.row(asked, told),
             "last" => return last(asked, told),
@@ -101,6 +102,18 @@ impl Names {
             return Err(format!("{} points in a list of {}", list.len(), size));
         }
         Ok(Case::Points(today, self.bytes(&asked[2..])?, (verdict, counts, list)))
+    }
+
+    /// Strings that are decoded into a list of entries, each written as its ten numbers. It is told whole.
+    fn many(&self, asked: &[&str], told: &[&str]) -> Outcome<Case> {
+        let (entries, number) = (number(asked.first())? as usize, number(told.first())?);
+        let decoded = told[1..].iter().map(|word| entry(word)).collect::<Outcome<Vec<_>>>()?;
+        if decoded.len() != entries {
+            return Err(format!("{} entries in a list of {}", decoded.len(), entries));
+        }
+        let record = plain(Call::FascnDecodeByTable, 0, self.bytes(&asked[1..])?);
+        let record = Record { entries, fill: 0xFF, ..record };
+        Ok(Case::Called(vec![record], Answer { number, decoded, ..Answer::default() }))
     }
 
     /// The five lists of a call that has no kind.
@@ -244,6 +257,13 @@ fn point(word: &str) -> Outcome<Point> {
     }
 }
 
+/// An entry of many strings: its number, and the nine numbers of its FASC-N.
+fn entry(word: &str) -> Outcome<Decoded> {
+    let told = numbers(word)?;
+    let numbers = told[1..].try_into().map_err(|_| format!("no entry: {}", word))?;
+    Ok(Decoded { number: told[0], numbers })
+}
+
 /// Lists of these lengths, each told whole. An empty one has no word.
 fn whole_lists(sizes: [usize; 5], told: &[&str]) -> Outcome<[Vec<u64>; 5]> {
     let (mut lists, mut words) = (<[Vec<u64>; 5]>::default(), told.iter());
@@ -351,6 +371,7 @@ impl Running<'_> {
         outcome.map_err(|wrong| format!("the library: {}", self.trial.tell(record, wrong)))?;
         let told = match record.call {
             Call::Signer => signer::difference(record, expected),
+            Call::FascnDecodeByTable => strings::difference(record, expected),
             _ => folder::difference(record, expected),
         };
         told.map_or(Ok(()), Err)

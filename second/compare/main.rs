@@ -3,6 +3,7 @@
 //! tests/certificates.
 //!
 //!     compare calls SEED COUNT        the named calls, COUNT made calls, and the sweeps of changed bytes and of smears
+//!     compare strings SEED            both readers of FASC-N on the neighbours of P1 and on a million strings
 //!     compare planted SEED            tries the comparison itself, with planted faults
 //!     compare cases FOLDER FILE..     worked cases; what programs are tried with is put into the folder
 //!     compare certificates FILE..     certificates in DER, as they are and damaged
@@ -20,6 +21,7 @@ mod points;
 #[path = "../../examples/rust/prosianek.rs"]
 mod prosianek;
 mod signer;
+mod strings;
 mod trial;
 
 use trial::{call_text, Fault, Trial};
@@ -57,6 +59,7 @@ impl Comparison {
         match record.call {
             Call::Lists => self.compare_points(record),
             Call::Signer => self.compare_signer(record, expected),
+            Call::FascnDecode | Call::FascnDecodeByTable => self.compare_readers(record, expected),
             Call::Folder | Call::Row | Call::Last => self.compare_folder(record, expected),
             _ => (),
         }
@@ -72,6 +75,17 @@ impl Comparison {
     /// The function for Rust has to tell the same of a signer, in its own words.
     fn compare_signer(&mut self, record: &Record, expected: &Answer) {
         if let Some(told) = signer::difference(record, expected) {
+            self.differs(|_| format!("{}\n  {}", told, call_text(record)));
+        }
+    }
+
+    /// So have the function for Rust of many FASC-N and the first reader of each of them; and that function of one.
+    fn compare_readers(&mut self, record: &Record, expected: &Answer) {
+        let told = match record.call {
+            Call::FascnDecode => strings::difference_of_one(record, expected),
+            _ => strings::difference(record, expected),
+        };
+        if let Some(told) = told {
             self.differs(|_| format!("{}\n  {}", told, call_text(record)));
         }
     }
@@ -154,11 +168,15 @@ fn main() {
     let arguments: Vec<&str> = arguments.iter().map(String::as_str).collect();
     let good = match arguments[..] {
         ["calls", seed, count] => all_same(number(seed), number(count)),
+        ["strings", seed] => strings::all_agree(number(seed)),
         ["planted", seed] => planted::all_seen(number(seed)),
         ["cases", folder, ref files @ ..] => cases::all_hold(folder, files),
         ["certificates", ref files @ ..] => certificates::all_judged(files),
         _ => {
-            eprintln!("usage: compare calls SEED COUNT | planted SEED | cases FOLDER FILE.. | certificates FILE..");
+            eprintln!(
+                "usage: compare calls SEED COUNT | strings SEED | planted SEED | cases FOLDER FILE.. | \
+                 certificates FILE.."
+            );
             exit(2)
         }
     };

@@ -3,8 +3,9 @@
 //! a sheet, the places that one would give which takes every length for one in fewest bytes, and the numbers of one that judges a
 //! printed date, a facial or an iris record by another rule, or that still answers 8 to a report. So are the counts and the
 //! entries of one that takes points apart wrongly, what one answers that looks for a signer elsewhere, and the lines and states of
-//! one that goes through a folder wrongly. So are the numbers of one that takes a smeared FASC-N for a good one. 8 and 9 are
-//! planted on both sides too, where nothing differs, and so are FASC-N that conform in the sweep of smears.
+//! one that goes through a folder wrongly. So are the numbers of one that takes a smeared FASC-N for a good one, and what one answers
+//! to many that mixes them up. 8 and 9 are planted on both sides too, where nothing differs, and so are FASC-N that conform in the
+//! sweep of smears. And readers that are wrong are compared on many strings.
 
 use crate::folder::difference;
 use crate::trial::{call_text, native, Fault, Sort, Stretch, Trial, Wrong, LISTS};
@@ -20,6 +21,7 @@ use std::ops::Range;
 mod folder;
 mod signer;
 mod smears;
+mod strings;
 
 /// So many of the made calls of each sort.
 const CALLS: usize = 300;
@@ -28,7 +30,7 @@ const CALLS: usize = 300;
 const SHOWN: usize = 5;
 
 /// Faults are planted in each of these.
-const STRETCHES: [&str; 24] = [
+const STRETCHES: [&str; 25] = [
     "number",
     "place",
     "tag",
@@ -38,6 +40,7 @@ const STRETCHES: [&str; 24] = [
     "length",
     "part",
     "numbers",
+    "list",
     "room",
     "types",
     "xs",
@@ -119,7 +122,7 @@ fn faults_of_both(stretch: &Stretch) -> Vec<Planted> {
 }
 
 /// The mistakes that are made in a number that is lent, each with the name of that. Those about a signer are [`signer::MISTAKES`],
-/// those about a folder [`folder::MISTAKES`], and those about a FASC-N [`smears::MISTAKES`].
+/// those about a folder [`folder::MISTAKES`], those about a FASC-N [`smears::MISTAKES`], and those about many [`strings::MISTAKES`].
 const MISTAKES: [(&str, &str); 59] = [
     ("number", "16 for no date"),
     ("number", "23 for no date"),
@@ -389,13 +392,14 @@ fn mistaken_entries(record: &Record, expected: &Answer) -> Vec<Mistake> {
     out
 }
 
-/// All mistakes in a call: numbers, tags, places and offsets, counts and entries, and what is wrong with a signer, a folder or a
-/// FASC-N alone.
+/// All mistakes in a call: numbers, tags, places and offsets, counts and entries, and what is wrong with a signer, a folder, a
+/// FASC-N alone or many.
 fn mistakes(record: &Record, expected: &Answer) -> Vec<Mistake> {
     let mut out = match record.call {
         Call::Signer => signer::mistakes(record, expected),
         Call::Folder | Call::Row | Call::Last => folder::mistakes(record, expected),
         Call::FascnDecode => smears::mistakes(expected),
+        Call::FascnDecodeByTable => strings::mistakes(record, expected),
         _ => mistakes_of_verdict(record, expected),
     };
     if record.call == Call::Lists {
@@ -528,10 +532,11 @@ impl Trying {
             println!("  {}: {}", what, texts.join(" "));
         }
         let mistaken = |name, how| self.planted.get(&(how, name)).copied().unwrap_or_default();
-        let mistakes = [&MISTAKES[..], &signer::MISTAKES, &folder::MISTAKES, &smears::MISTAKES].concat();
+        let of_calls = [&signer::MISTAKES[..], &folder::MISTAKES, &smears::MISTAKES, &strings::MISTAKES].concat();
+        let mistakes = [&MISTAKES[..], &of_calls].concat();
         let numbers = ["number", "short", "tag", "place", "which", "offset", "length", "first", "second", "numbers"];
-        let of_folders = ["room", "good", "agreement", "fascn", "summary"];
-        for which in numbers.into_iter().chain(LISTS).chain(of_folders) {
+        let others = ["list", "room", "good", "agreement", "fascn", "summary"];
+        for which in numbers.into_iter().chain(LISTS).chain(others) {
             let here = mistakes.iter().filter(|(name, _)| *name == which);
             let texts: Vec<String> = here.map(|&(name, how)| format!("{}: {}", how, mistaken(name, how))).collect();
             println!("  another {}, {}", which, texts.join(", "));
@@ -557,6 +562,7 @@ pub fn all_seen(seed: u64) -> bool {
         pairs::records,
         folders::records,
         second::smears::records,
+        second::strings::records,
     ];
     let with_faults: Vec<Record> = edges.iter().flat_map(|records| records()).collect();
     let made = calls(seed);
@@ -570,9 +576,9 @@ pub fn all_seen(seed: u64) -> bool {
     }
     println!(
         "faults planted in {} calls of every sort, and mistakes in {} on dates, faces, fingers, irises, faults, longer forms, \
-         long reports, signers, folders and smears, one at a time:",
+         long reports, signers, folders, smears and many FASC-N, one at a time:",
         made.len(),
         with_faults.len()
     );
-    trying.judge() && smears::are_judged(seed)
+    trying.judge() && smears::are_judged(seed) && strings::are_judged()
 }

@@ -5,21 +5,26 @@
 //! expected there, and none is zero, nor is one in the guards: so a byte that is not written shows, and one too many.
 //! A state that a call changes holds before it what the call is given, and afterwards what is expected.
 
-use crate::prosianek::{prosianek_check, prosianek_fascn_decode, prosianek_fascn_encode, prosianek_lists};
+use crate::prosianek::{self, prosianek_check, prosianek_lists};
+use crate::prosianek::{prosianek_fascn_decode, prosianek_fascn_decode_by_table, prosianek_fascn_encode};
 use crate::prosianek::{prosianek_folder_end, prosianek_folder_step, prosianek_last, prosianek_row};
 use crate::prosianek::{prosianek_report, prosianek_signer, prosianek_view, prosianek_write};
-use second::batch::{pieces, Answer, Call, Record, BYTES_MAX, LIST_MAX, ROOM_MAX};
+use second::batch::{pieces, Answer, Call, Record, BYTES_MAX, ENTRIES_MAX, LIST_MAX, ROOM_MAX};
 use second::folder::Seen;
 use second::generate::Rng;
-use second::{number, tag_number, Which};
+use second::{number, tag_number, Decoded, Which};
 use std::ops::Range;
 use std::{ptr, slice};
 
 /// A guard has this many bytes, or a few more.
 const GUARD: usize = 64;
 
-/// Enough for the two largest inputs with the largest room or the five longest lists, and for a dozen guards and numbers.
-const MEMORY: usize = 2 * BYTES_MAX + ROOM_MAX + 5 * 8 * LIST_MAX + 20 * GUARD;
+/// An entry of a list that strings are decoded into has ten numbers: the number of its answer, and the nine of a FASC-N.
+pub const ENTRY_BYTES: usize = 10 * 8;
+
+/// Enough for the two largest inputs with the largest room, the five longest lists and the longest one of entries, and for a dozen
+/// guards and numbers.
+const MEMORY: usize = 2 * BYTES_MAX + ROOM_MAX + 5 * 8 * LIST_MAX + ENTRY_BYTES * ENTRIES_MAX + 20 * GUARD;
 
 /// The five lists of numbers that are filled with points, in their order.
 pub const LISTS: [&str; 5] = ["types", "xs", "ys", "angles", "qualities"];
@@ -88,6 +93,11 @@ pub fn native(numbers: &[u64]) -> Vec<u8> {
     numbers.iter().flat_map(|number| number.to_ne_bytes()).collect()
 }
 
+/// Entries as they stand in memory.
+pub fn native_entries(entries: &[Decoded]) -> Vec<u8> {
+    entries.iter().flat_map(|entry| [native(&[entry.number]), native(&entry.numbers)].concat()).collect()
+}
+
 /// The numbers that stand in memory.
 fn numbers(bytes: &[u8]) -> Vec<u64> {
     let number = |eight: &[u8]| u64::from_ne_bytes(eight.try_into().expect("a chunk of eight"));
@@ -113,6 +123,7 @@ fn lent(call: Call, expected: &Answer) -> Vec<(&'static str, Vec<u8>)> {
         }
         Call::Signer => vec![place(), tag(), ("which", native(&[expected.which])), offset(), length()],
         Call::FascnDecode => vec![("numbers", native(&expected.numbers))],
+        Call::FascnDecodeByTable => vec![("list", native_entries(&expected.decoded))],
         Call::FascnEncode => vec![room()],
         Call::Folder => Vec::new(),
         Call::Row | Call::Last => vec![room(), length()],
@@ -343,6 +354,10 @@ impl Trial {
                     prosianek_signer(kind, today, chuid, chuid_size, input, size, place, tag, which, offset, length)
                 }
                 Call::FascnDecode => prosianek_fascn_decode(input, size, at("numbers") as *mut [u64; 9]),
+                Call::FascnDecodeByTable => {
+                    let list = at("list") as *mut prosianek::Decoded;
+                    prosianek_fascn_decode_by_table(input, size, list, record.entries)
+                }
                 Call::FascnEncode => prosianek_fascn_encode(input as *const [u64; 9], at("room"), room),
                 Call::Folder => {
                     let end = memory.add(self.range("input").end);
@@ -518,6 +533,7 @@ pub fn call_text(record: &Record) -> String {
     let lent = match record.call {
         Call::Lists => format!("lists {:?}", record.lists),
         Call::Signer => format!("chuid {}", hex(&record.chuid)),
+        Call::FascnDecodeByTable => format!("a list of {}", record.entries),
         Call::Folder => format!("pieces of {}", record.piece),
         Call::Row | Call::Last => {
             let Seen { good, agreement, fascn } = &record.seen;

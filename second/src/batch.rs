@@ -3,7 +3,7 @@
 use crate::card::{self, Checked};
 use crate::folder::{self, Seen};
 use crate::generate::Rng;
-use crate::{number, points, report, signer, values, Which};
+use crate::{number, points, report, signer, values, Decoded, Which};
 use std::collections::BTreeMap;
 use std::fmt;
 
@@ -16,6 +16,7 @@ pub enum Call {
     Lists,
     Signer,
     FascnDecode,
+    FascnDecodeByTable,
     FascnEncode,
     Folder,
     Row,
@@ -23,7 +24,7 @@ pub enum Call {
 }
 
 impl Call {
-    pub const ALL: [Call; 11] = [
+    pub const ALL: [Call; 12] = [
         Call::Check,
         Call::Write,
         Call::View,
@@ -31,6 +32,7 @@ impl Call {
         Call::Lists,
         Call::Signer,
         Call::FascnDecode,
+        Call::FascnDecodeByTable,
         Call::FascnEncode,
         Call::Folder,
         Call::Row,
@@ -46,6 +48,7 @@ impl Call {
             Call::Lists => "lists",
             Call::Signer => "signer",
             Call::FascnDecode => "decode",
+            Call::FascnDecodeByTable => "decode by table",
             Call::FascnEncode => "encode",
             Call::Folder => "folder",
             Call::Row => "row",
@@ -54,10 +57,11 @@ impl Call {
     }
 }
 
-/// No record has a larger room, more bytes, or a list of more numbers. A folder may have more, which comes in pieces.
+/// No record has a larger room, more bytes, or a list of more numbers or entries. A folder may have more, which comes in pieces.
 pub const ROOM_MAX: usize = 70_000;
 pub const BYTES_MAX: usize = 66_000;
 pub const LIST_MAX: usize = 1_000;
+pub const ENTRIES_MAX: usize = 500;
 pub const FOLDER_MAX: usize = 200_000;
 
 /// A folder comes in pieces of so many bytes: of one, as a program reads a file, or each of another size.
@@ -80,10 +84,12 @@ pub struct Record {
     pub room: usize,
     /// How many numbers each of the five lists has.
     pub lists: [usize; 5],
+    /// How many entries the list has that strings are decoded into.
+    pub entries: usize,
     /// What the room or the lists hold before the second program's call, in each byte.
     pub fill: u8,
-    /// The container, the sheet or the FASC-N; nine numbers of eight bytes for an encoding; the biometric whose signer is asked for;
-    /// the whole folder.
+    /// The container, the sheet or the FASC-N; strings of 25 bytes one after the other; nine numbers of eight bytes for an encoding;
+    /// the biometric whose signer is asked for; the whole folder.
     pub bytes: Vec<u8>,
     /// The CHUID that goes with that biometric. No other call has a second container: there it is empty.
     pub chuid: Vec<u8>,
@@ -115,6 +121,8 @@ pub struct Answer {
     pub part: Vec<u8>,
     /// The nine numbers of a FASC-N.
     pub numbers: [u64; 9],
+    /// What each of several strings answers: the list whole, to its end.
+    pub decoded: Vec<Decoded>,
     /// The whole room, to its end.
     pub room: Vec<u8>,
     /// How many points the first view has, and the second.
@@ -175,6 +183,12 @@ impl Record {
             Call::FascnDecode => {
                 let (number, numbers) = values::fascn_decode(bytes);
                 Answer { number, numbers, ..Answer::default() }
+            }
+            Call::FascnDecodeByTable => {
+                let old = u64::from_ne_bytes([self.fill; 8]);
+                let mut decoded = vec![Decoded { number: old, numbers: [old; 9] }; self.entries];
+                let number = values::fascn_decode_many(bytes, &mut decoded);
+                Answer { number, decoded, ..Answer::default() }
             }
             Call::FascnEncode => {
                 let number = values::fascn_encode(&self.numbers(), &mut room);

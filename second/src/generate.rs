@@ -4,7 +4,7 @@ use crate::batch::{Call, Record, BYTES_MAX, ROOM_MAX};
 use crate::card::{self, all_kinds, Rule, LAST_KIND, ROWS_MAX};
 use crate::folder::Seen;
 use crate::values::{self, fascn_encode, fascn_pack, fascn_values, is_date, Format, FACE, FINGERS, IRIS};
-use crate::{dates, faces, faults, fingers, folders, irises, lengths, longest, pairs, smears, trees};
+use crate::{dates, faces, faults, fingers, folders, irises, lengths, longest, pairs, smears, strings, trees};
 use crate::{CONTAINER_MAX, NO_TAG, REPORT_MAX, SHEET_ROOM};
 
 /// splitmix64.
@@ -596,7 +596,7 @@ pub fn turn_bit(bytes: &mut [u8], at: usize) {
     bytes[at / 8] ^= 0x80 >> (at % 8);
 }
 
-fn damage_fascn(rng: &mut Rng, bytes: &mut [u8]) {
+pub fn damage_fascn(rng: &mut Rng, bytes: &mut [u8]) {
     if rng.one_in(8) {
         return smears::damage(rng, bytes);
     }
@@ -1518,7 +1518,8 @@ fn random_record(rng: &mut Rng) -> Record {
     let mut record = match rng.below(1_000) {
         0 | 1 => big_record(rng),
         2..=31 => longest_record(rng),
-        32..=89 => fascn_decode_record(rng),
+        32..=69 => fascn_decode_record(rng),
+        70..=89 => strings::record(rng),
         90..=139 => fascn_encode_record(rng),
         140..=319 => write_record(rng),
         320..=419 => fingers::record(rng),
@@ -1526,7 +1527,7 @@ fn random_record(rng: &mut Rng) -> Record {
         530..=609 => folders::record(rng),
         _ => container_record(rng),
     };
-    if matches!(record.call, Call::FascnDecode | Call::FascnEncode | Call::Last) {
+    if matches!(record.call, Call::FascnDecode | Call::FascnDecodeByTable | Call::FascnEncode | Call::Last) {
         return record;
     }
     // a call that fills lists has no kind, nor has one on a folder, and that of a row is a byte
@@ -1836,6 +1837,7 @@ pub fn plain(call: Call, kind: u64, bytes: Vec<u8>) -> Record {
         element: 0,
         room: 0,
         lists: [0; 5],
+        entries: 0,
         fill: 0,
         bytes,
         chuid: Vec::new(),
@@ -1970,6 +1972,7 @@ fn fixed_records() -> Vec<Record> {
     out.extend(pairs::records());
     out.extend(folders::records());
     out.extend(smears::records());
+    out.extend(strings::records());
     out
 }
 

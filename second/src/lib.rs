@@ -1,5 +1,6 @@
 //! The independent second program: it checks PIV data containers, gives their value sheets, writes, views and reports them, fills
-//! lists with the points of fingers, finds the certificate of who signed a biometric, and sums up a folder of containers.
+//! lists with the points of fingers, finds the certificate of who signed a biometric, sums up a folder of containers, and decodes
+//! FASC-N, one or many.
 //!
 //! It is written from the scope page (01), the change requests (02) and the list of decided points
 //! alone, and serves as the partner that the proved program is compared with, and as the speed baseline.
@@ -27,6 +28,7 @@ pub mod report;
 pub mod samples;
 pub mod signer;
 pub mod smears;
+pub mod strings;
 pub mod trees;
 pub mod values;
 
@@ -35,7 +37,7 @@ pub use folder::{folder, last, row, Seen};
 pub use points::{lists, points, Point};
 pub use report::{desk, report};
 pub use signer::{signer, Which};
-pub use values::{fascn_decode, fascn_encode};
+pub use values::{fascn_decode, fascn_decode_many, fascn_encode, Decoded};
 
 /// The numbers of 01's table.
 pub mod number {

@@ -19,6 +19,7 @@ mod longest;
 mod points;
 mod signer;
 mod smears;
+mod strings;
 mod tags;
 
 pub use smears::{swept as swept_smears, SWEPT as SWEPT_SMEARS};
@@ -33,6 +34,7 @@ pub fn all() -> Vec<Group> {
     [
         fascns(),
         smears::all(),
+        strings::all(),
         biometrics(),
         certificates(),
         limits(),

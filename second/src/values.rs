@@ -87,6 +87,32 @@ pub fn fascn_decode(bytes: &[u8]) -> (u64, [u64; 9]) {
     }
 }
 
+/// What one of several strings answers: the number, and the nine numbers of a FASC-N. The default is what is behind the last string.
+#[derive(Clone, Copy, Debug, Default, PartialEq, Eq)]
+pub struct Decoded {
+    pub number: u64,
+    pub numbers: [u64; 9],
+}
+
+/// Decodes strings of 25 bytes that follow each other, each as if it were alone, into the entries of a list. Zeros are behind the last
+/// of them, or in the whole list after a refusal: 17 for bytes left over, or then 3 for a list that is too short.
+pub fn fascn_decode_many(strings: &[u8], list: &mut [Decoded]) -> u64 {
+    let strings = strings.chunks_exact(FASCN_BYTES);
+    let number = match strings.remainder() {
+        [] if strings.len() <= list.len() => number::DONE,
+        [] => number::ROOM,
+        _ => number::FASCN,
+    };
+    let count = if number == number::DONE { strings.len() } else { 0 };
+    let (entries, behind) = list.split_at_mut(count);
+    for (entry, string) in entries.iter_mut().zip(strings) {
+        let (number, numbers) = fascn_decode(string);
+        *entry = Decoded { number, numbers };
+    }
+    behind.fill(Decoded::default());
+    number
+}
+
 /// Packs forty values under 16, each with its parity bit.
 pub fn fascn_pack(values: &[u8; 40]) -> [u8; FASCN_BYTES] {
     let mut out = [0u8; FASCN_BYTES];

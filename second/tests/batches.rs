@@ -1,6 +1,6 @@
 //! The made calls.
 
-use second::batch::{Call, Record, Tally, BYTES_MAX, FOLDER_MAX, LIST_MAX, PIECES, ROOM_MAX};
+use second::batch::{Call, Record, Tally, BYTES_MAX, ENTRIES_MAX, FOLDER_MAX, LIST_MAX, PIECES, ROOM_MAX};
 use second::generate::Inputs;
 use second::{check, number, points, Seen, SHEET_ROOM};
 use std::collections::BTreeSet;
@@ -32,6 +32,12 @@ fn records_keep_to_the_limits() {
             assert_eq!(record.lists, [0; 5]);
         }
         assert!(record.chuid.len() <= BYTES_MAX && (record.chuid.is_empty() || record.call == Call::Signer));
+        assert!(record.entries <= ENTRIES_MAX);
+        if record.call == Call::FascnDecodeByTable {
+            assert_eq!((record.kind, record.today, record.room), (0, 0, 0));
+        } else {
+            assert_eq!(record.entries, 0);
+        }
         if record.call == Call::FascnEncode {
             assert_eq!(record.bytes.len(), 72);
         }

@@ -1,12 +1,13 @@
--- Eight of the calls that C has: those of the door but the list of points, which C has as five lists, and those of a folder (`Folder.antt`). Each record is the
+-- Nine of the calls that C has: those of the door but the list of points, which C has as five lists, and those of a folder (`Folder.antt`). Each record is the
 -- whole contract of one function: the record of the door's call, of the numbers that the function answers and stores. A verdict's tag is stored by its number. Nothing is left open (`promises`, `SettledForC`).
 use Rattle.std.specs.Prelude.{ℕ, ◌≡◌, List, length, get_or}
 use Rattle.fascn.specs.declared.Numbers.{Numbers}
+use Rattle.fascn.specs.declared.Decoded.{Decoded}
 use Rattle.verdicts.specs.Verdicts.{Tag, tag_number}
 use Rattle.views.specs.Views.{viewed}
 use Rattle.points.specs.Calls.{Five}
 use Rattle.signer.specs.Signer.{Signed, Says}
-use Rattle.prosianek.specs.Calls.{Checks, Writes, Reports, Lists, Decodes, Encodes}
+use Rattle.prosianek.specs.Calls.{Checks, Writes, Reports, Lists, Decodes, DecodesByTable, Encodes}
 use Rattle.std.specs.Prelude.{None}
 
 -- nine numbers in 01's order: agency, system, credential, series, issue, person, category, organisation, association
@@ -65,6 +66,10 @@ pub record CSigners (kind today : ℕ) (chuid biometric : List ℕ) (number plac
 pub record CDecodes (s : List ℕ) (number : ℕ) (numbers : List ℕ) : Type 0 where
   pub answers : Decodes s (record { number = number; numbers = numbers_of numbers })
   pub nine : length numbers ≡ 9
+
+-- the list is the door's own: an entry is a number and nine numbers in 01's order, in C too
+pub record CDecodesByTable (bytes : List ℕ) (before after : List Decoded) (number : ℕ) : Type 0 where
+  pub answers : DecodesByTable bytes before after number
 
 pub record CEncodes (numbers before after : List ℕ) (number : ℕ) : Type 0 where
   pub answers : Encodes (numbers_of numbers) before after number

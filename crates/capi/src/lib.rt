@@ -1,16 +1,16 @@
-// The twelve calls for C, four of them in folder.rt: include/prosianek.h declares them, and the crate capi_c exports them. A slice is
+// The thirteen calls for C, four of them in folder.rt: include/prosianek.h declares them, and the crate capi_c exports them. A slice is
 // a pointer and a length there, a lent number a pointer; each function answers 01's number. Each contract is one record of
 // specs/Calls.antt.
 #![tactic(auto)]
 
 pub mod folder;
 
-ghost use Rattle.capi.specs.Calls.{CChecks, CWrites, CViews, CReports, CLists, CSigners, CDecodes, CEncodes};
+ghost use Rattle.capi.specs.Calls.{CChecks, CWrites, CViews, CReports, CLists, CSigners, CDecodes, CDecodesByTable, CEncodes};
 ghost use Rattle.std.specs.Prelude.{◌≡◌};
 ghost use Rattle.verdicts.specs.Verdicts.{tag_number};
 ghost use Rattle.points.specs.Calls.{five};
 
-use fascn::Numbers;
+use fascn::{Decoded, Numbers};
 use verdicts::Verdict;
 
 // A verdict is stored by its place and its tag, and answered by its number.
@@ -155,6 +155,13 @@ pub fn prosianek_fascn_decode(bytes: &[u8], numbers: &mut [u64; 9]) -> u64
         n.association,
     ];
     d.number
+}
+
+// The entries lie as C has them, so that the door's call fills the list that was lent.
+pub fn prosianek_fascn_decode_by_table(strings: &[u8], list: &mut [Decoded]) -> u64
+    ensures { CDecodesByTable strings.now list.old list.new result }
+{
+    prosianek::decode_by_table(strings, list)
 }
 
 pub fn prosianek_fascn_encode(numbers: &[u64; 9], room: &mut [u8]) -> u64

@@ -2,11 +2,11 @@
 // them, and each contract is that of the function that is called. A library for crates above it and one for C are two crates.
 #![tactic(auto)]
 
-ghost use Rattle.capi.specs.Calls.{CChecks, CWrites, CViews, CReports, CLists, CSigners, CDecodes, CEncodes};
+ghost use Rattle.capi.specs.Calls.{CChecks, CWrites, CViews, CReports, CLists, CSigners, CDecodes, CDecodesByTable, CEncodes};
 ghost use Rattle.points.specs.Calls.{five};
 ghost use Rattle.capi.specs.Folder.{CFolderSteps, CFolderEnds, CRows, CLasts};
 
-use fascn::Numbers;
+use fascn::Decoded;
 
 #[unsafe(no_mangle)]
 pub extern "C" fn prosianek_check(
@@ -113,6 +113,13 @@ pub extern "C" fn prosianek_fascn_decode(bytes: &[u8], numbers: &mut [u64; 9]) -
     ensures { CDecodes bytes.now result numbers.new }
 {
     capi::prosianek_fascn_decode(bytes, numbers)
+}
+
+#[unsafe(no_mangle)]
+pub extern "C" fn prosianek_fascn_decode_by_table(strings: &[u8], list: &mut [Decoded]) -> u64
+    ensures { CDecodesByTable strings.now list.old list.new result }
+{
+    capi::prosianek_fascn_decode_by_table(strings, list)
 }
 
 #[unsafe(no_mangle)]

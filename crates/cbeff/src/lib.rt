@@ -10,7 +10,7 @@ ghost use Rattle.cbeff.specs.Judged.{sizes_hold, dates_hold, form_holds};
 
 use dates::is_moment;
 use facial::is_facial;
-use fascn::is_fascn;
+use by_table::is_fascn;
 use iris::is_iris;
 use minutiae::is_minutiae;
 use numbers::number;

@@ -13,11 +13,16 @@ use lib.Seq.{take_all}
 use borrow.Author.Tests.{eqb-true, eqb-false, eq-eqb, ltb-true, ltb-false, leb-true, le-leb, not-true}
 use Rattle.laws.specs.Bytes.{Bytes}
 use Rattle.laws.specs.Digits.{digits}
-use Rattle.laws.specs.Tests.{all_below, each, same}
+use Rattle.laws.specs.Tests.{all, all_below, each, same}
 use Rattle.laws.specs.Room.{filled}
 use Rattle.laws.proofs.Cases.{which, and-true, all_true, same-eq}
 use Rattle.fascn.specs.Fascn.{exclusive, values, checked, characters, encoded, in_range}
 use Rattle.fascn.specs.Reading.{values_of, framed, decoded, is_fascn}
+use Rattle.fascn.specs.declared.Numbers.{Numbers}
+use Rattle.fascn.specs.declared.Decoded.{Decoded}
+use Rattle.pairs.specs.Pairs.{entry}
+use Rattle.by_table.specs.Each.{planned, entry_at, number_of_each, entries as entries_of}
+use Rattle.prosianek.proofs.ByTable.{is-read}
 use Rattle.fascn.proofs.Framing.{range-exact}
 use Rattle.fascn.proofs.Codec.{fascn-exact}
 use Rattle.lengths.specs.Length.{Spelt, length_bytes, read_length}
@@ -81,7 +86,7 @@ use Rattle.prosianek.proofs.Checking.{answer, output, only}
 use Rattle.promises.specs.Demands.{sizes}
 use Rattle.promises.proofs.Listing.{Told, computed, computed-says}
 use Rattle.promises.proofs.Signing.{as_said}
-use Rattle.examples.specs.Examples.{Example, fascn_of, no_fascn, spans, spells, no_length, date, no_date, kept, late, printed_date, no_printed_date, conforms, breaks, checks, writes, reports, fills_lists, fills_points, signs, folder_of, no_folder, sums_up, rows_as, lasts_as, today, Holds, All, examples}
+use Rattle.examples.specs.Examples.{Example, fascn_of, no_fascn, spans, has_values, decodes_each, spells, no_length, date, no_date, kept, late, printed_date, no_printed_date, conforms, breaks, checks, writes, reports, fills_lists, fills_points, signs, folder_of, no_folder, sums_up, rows_as, lasts_as, today, Holds, All, examples}
 use Rattle.std.specs.Prelude.{Some, None, Err}
 
 -- ---- each row as a test
@@ -141,6 +146,21 @@ same_row : Row → Tally → ℕ → List ℕ → Tally → Bool
 same_row (refuses f) t number line u = eqb (number_of f) number && same [] line && same_tally t u
 same_row (written l v) t number line u = eqb 0 number && same l line && same_tally v u
 
+-- the same answers of many strings
+numbers_tests : Numbers → Numbers → List Bool
+numbers_tests n m =
+    eqb n.agency m.agency ∷ eqb n.system m.system ∷ eqb n.credential m.credential ∷ eqb n.series m.series ∷ eqb n.issue m.issue ∷ eqb n.person m.person
+    ∷ eqb n.category m.category ∷ eqb n.organisation m.organisation ∷ eqb n.association m.association ∷ []
+
+same_decoded : Decoded → Decoded → Bool
+same_decoded d e = eqb d.number e.number && all (numbers_tests d.numbers e.numbers)
+
+same_answers : List Decoded → List Decoded → Bool
+same_answers [] [] = true
+same_answers [] (e ∷ es) = false
+same_answers (d ∷ ds) [] = false
+same_answers (d ∷ ds) (e ∷ es) = same_decoded d e && same_answers ds es
+
 -- a row computed, without the bytes of a container that is too long
 quick_row : ℕ → ℕ → ℕ → List ℕ → Tally → ℕ → Row
 quick_row kind offset size c t room =
@@ -152,6 +172,9 @@ tested : Example → Bool
 tested (fascn_of s n) = in_range n && same s (encoded n)
 tested (no_fascn s) = are_bytes s && not (is_fascn s)
 tested (spans width first s t) = are_bytes t && spanned width first s t
+tested (has_values x first second) = eqb (entry x).first first && eqb (entry x).second second
+tested (decodes_each bytes before number after) =
+    are_bytes bytes && eqb number (number_of_each (length bytes) (length before)) && same_answers after (entries_of bytes (length before))
 tested (spells s n) = are_bytes s && is_length (read_length s) n (length s)
 tested (no_length s) = are_bytes s && is_none (read_length s)
 tested (date n) = is_date n
@@ -392,6 +415,33 @@ are-entries (e ∷ es) t =
     let f = all_true (ltb e.kind 256 ∷ ltb (length e.bytes) 4294967296 ∷ are_bytes e.bytes ∷ are_entries es ∷ []) t in
     (record { kind_is = ltb-true _ _ (f 0); length_is = ltb-true _ _ (f 1); bytes_are = are-bytes e.bytes (f 2) }, are-entries es (f 3))
 
+same-numbers : (n m : Numbers) → all (numbers_tests n m) ≡ true → n ≡ m
+unfolding numbers_tests
+same-numbers n m h =
+    let f = all_true (numbers_tests n m) h in
+    let a = eqb-true _ _ (f 0) in
+    let s = eqb-true _ _ (f 1) in
+    let c = eqb-true _ _ (f 2) in
+    let r = eqb-true _ _ (f 3) in
+    let i = eqb-true _ _ (f 4) in
+    let p = eqb-true _ _ (f 5) in
+    let k = eqb-true _ _ (f 6) in
+    let o = eqb-true _ _ (f 7) in
+    let x = eqb-true _ _ (f 8) in
+    λ j. record { agency = a j; system = s j; credential = c j; series = r j; issue = i j; person = p j; category = k j; organisation = o j; association = x j }
+
+same-answers : (ds es : List Decoded) → same_answers ds es ≡ true → ds ≡ es
+unfolding same_answers same_decoded
+same-answers [] [] h = refl
+same-answers [] (e ∷ es) h = absurd (true≢false (sym h))
+same-answers (d ∷ ds) [] h = absurd (true≢false (sym h))
+same-answers (d ∷ ds) (e ∷ es) h =
+    let c = and-true (same_decoded d e) (same_answers ds es) h in
+    let f = and-true (eqb d.number e.number) (all (numbers_tests d.numbers e.numbers)) c.0 in
+    let n = eqb-true _ _ f.0 in
+    let m = same-numbers d.numbers e.numbers f.1 in
+    ap₂ (λ (x : Decoded) (y : List Decoded). x ∷ y) (λ j. record { number = n j; numbers = m j }) (same-answers ds es c.1)
+
 same-tally : (t u : Tally) → same_tally t u ≡ true → t ≡ u
 unfolding same_tally
 same-tally t u h =
@@ -461,6 +511,10 @@ unfolding tested is_none
 so (fascn_of s n) t = let c = and-true (in_range n) (same s (encoded n)) t in record { in_range = (range-exact n).0 c.0; written = same-eq s (encoded n) c.1 }
 so (no_fascn s) t = let c = and-true (are_bytes s) (not (is_fascn s)) t in fails (is_fascn s) (fascn-exact s (are-bytes s c.0)) c.1
 so (spans width first s t) q = let c = and-true (are_bytes t) (spanned width first s t) q in damaged width first s t (are-bytes t c.0) c.1
+so (has_values x first second) t = let c = and-true (eqb (entry x).first first) (eqb (entry x).second second) t in (eqb-true _ _ c.0, eqb-true _ _ c.1)
+so (decodes_each bytes before number after) t =
+    let f = all_true (are_bytes bytes ∷ eqb number (number_of_each (length bytes) (length before)) ∷ same_answers after (entries_of bytes (length before)) ∷ []) t in
+    is-read bytes before after number (are-bytes bytes (f 0)) (eqb-true _ _ (f 1)) (same-answers after (entries_of bytes (length before)) (f 2))
 so (spells s n) t =
     let c = and-true (are_bytes s) (is_length (read_length s) n (length s)) t in
     rw (take_all (length s) s (omega arith)) at ((exact s (are-bytes s c.0) n (length s)).0 (is-length (read_length s) n (length s) c.1)).1

@@ -5,7 +5,11 @@ use Rattle.laws.specs.Ascii.{ascii}
 use Rattle.laws.specs.Layout.{number}
 use Rattle.laws.specs.Room.{filled}
 use Rattle.fascn.specs.Fascn.{IsFascnOf, IsFascn}
+use Rattle.fascn.specs.Calls.{success, refused}
 use Rattle.fascn.specs.declared.Numbers.{Numbers}
+use Rattle.fascn.specs.declared.Decoded.{Decoded}
+use Rattle.pairs.specs.Pairs.{entry}
+use Rattle.by_table.specs.Calls.{no_answer}
 use Rattle.lengths.specs.Length.{Spells}
 use Rattle.dates.specs.Date.{IsDate, InWindow}
 use Rattle.dates.specs.Printed.{IsPrintedDate}
@@ -26,7 +30,7 @@ use Rattle.summary.specs.Rows.{tally, start}
 use Rattle.summary.specs.Summary.{IsSummary}
 use Rattle.summary.specs.declared.Tally.{Tally}
 use Rattle.summary.specs.declared.Rowed.{Rowed}
-use Rattle.prosianek.specs.Calls.{Checks, Writes, Reports, Lists, Points, Signers, Rows, Lasts}
+use Rattle.prosianek.specs.Calls.{Checks, Writes, Reports, Lists, Points, Signers, DecodesByTable, Rows, Lasts}
 use Rattle.promises.specs.Demands.{sizes}
 use Rattle.std.specs.Prelude.{Some, None}
 
@@ -36,6 +40,8 @@ pub data Example : Type 0 where
   fascn_of : List ℕ → Numbers → Example
   no_fascn : List ℕ → Example
   spans : ℕ → ℕ → List ℕ → List ℕ → Example
+  has_values : ℕ → ℕ → ℕ → Example
+  decodes_each : List ℕ → List Decoded → ℕ → List Decoded → Example
   spells : List ℕ → ℕ → Example
   no_length : List ℕ → Example
   date : ℕ → Example
@@ -67,6 +73,10 @@ Holds (fascn_of s n) = IsFascnOf s n  -- these bytes are the FASC-N of these num
 Holds (no_fascn s) = IsFascn s → ⊥  -- they are that of none
 -- t is s damaged within so many neighbouring bits, those from this one on, of which the first and the last are changed: the damage spans them all
 Holds (spans width first s t) = (d : Damaged width s t) × (d.first ≡ first) × (bit t first ≡ bit s first → ⊥) × (bit t (first + (width - 1)) ≡ bit s (first + (width - 1)) → ⊥)
+-- ten bits have these two values in the table, where 16 is bad
+Holds (has_values x first second) = ((entry x).first ≡ first) × ((entry x).second ≡ second)
+-- the call for many strings, with a list that was `before`, answers this number and leaves `after`
+Holds (decodes_each bytes before number after) = DecodesByTable bytes before after number
 Holds (spells s n) = Spells s n  -- these bytes are the length
 Holds (no_length s) = (p r : List ℕ) (n : ℕ) → s ≡ p ++ r → Spells p n → ⊥  -- no bytes at their front are a length
 Holds (date n) = IsDate n  -- this number is a date
@@ -853,4 +863,25 @@ examples =
     -- nor is it in a CHUID or in a header
     ∷ breaks 2 (chuid_for p1_smeared) 17 2 (Some 0x30)
     ∷ breaks 6 (fingers_with p1_smeared (ascii "SIG")) 17 3 (Some 0xBC)
+    -- 2026-09, "the two values, or bad": P1's start and its first digit, 0 and 0, a bad character beside a good one, and two
+    ∷ has_values 848 11 1
+    ∷ has_values 33 0 0
+    ∷ has_values 34 0 8
+    ∷ has_values 1 16 0
+    ∷ has_values 32 0 16
+    ∷ has_values 0 16 16
+    ∷ has_values 1023 15 15
+    -- P1, and P1 between strings that are none, into a list that is one entry longer
+    ∷ decodes_each (p1 0xEB) (refused ∷ []) 0 (success p1_numbers ∷ [])
+    ∷ decodes_each (p1 0xEA ++ (p1 0xEB ++ replicate 25 0)) (replicate 4 refused) 0 (refused ∷ success p1_numbers ∷ refused ∷ no_answer ∷ [])
+    ∷ decodes_each (p1 0xEB ++ p1_threes) (replicate 2 refused) 0 (success p1_numbers ∷ success (record { agency = 1234; system = 3301; credential = 5; series = 1; issue = 1; person = 7; category = 1; organisation = 1234; association = 1 }) ∷ [])
+    -- no strings at all
+    ∷ decodes_each [] [] 0 []
+    ∷ decodes_each [] (refused ∷ []) 0 (no_answer ∷ [])
+    -- bytes left over, a list that is too short, and both
+    ∷ decodes_each (p1 0xEB ++ (0xD4 ∷ [])) (replicate 2 refused) 17 (replicate 2 no_answer)
+    ∷ decodes_each (take 24 (p1 0xEB)) (refused ∷ []) 17 (no_answer ∷ [])
+    ∷ decodes_each (p1 0xEB ++ p1 0xEB) (refused ∷ []) 3 (no_answer ∷ [])
+    ∷ decodes_each (p1 0xEB) [] 3 []
+    ∷ decodes_each (p1 0xEB ++ (0xD4 ∷ [])) [] 17 []
     ∷ []

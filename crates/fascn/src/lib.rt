@@ -7,12 +7,14 @@ ghost use Rattle.laws.specs.Digits.{digits, value, stored, groups};
 ghost use Rattle.laws.specs.Layout.{part};
 ghost use Rattle.verdicts.specs.Verdicts.{code_of};
 ghost use Rattle.fascn.specs.Fascn.{symbol, exclusive, values, checked, encoded, in_range};
-ghost use Rattle.fascn.specs.Reading.{value_of, is_digit, framed, fields, decoded, is_fascn, origin_of};
+ghost use Rattle.fascn.specs.Reading.{value_of, is_digit, framed, fields, decoded, origin_of};
 ghost use Rattle.fascn.specs.Calls.{decoded_by, Encoded};
 
 use numbers::{number, number_in};
 use verdicts::Fault;
 
+// Laid out as in C, where a list of answers is lent.
+#[repr(C)]
 #[derive(Clone, Copy, Default)]
 pub struct Numbers {
     pub agency: u64,
@@ -34,7 +36,8 @@ pub struct Origin {
 }
 
 // What decoding answers in 01's numbers: 0 and the numbers, or 17 and nine zeros.
-#[derive(Clone, Copy)]
+#[repr(C)]
+#[derive(Clone, Copy, Default)]
 pub struct Decoded {
     pub number: u64,
     pub numbers: Numbers,
@@ -165,16 +168,6 @@ fn fields(v: [u8; 40]) -> Numbers
         organisation: number_in::<10>(&v, 33, 4),
         association: number_in::<10>(&v, 37, 1),
     }
-}
-
-// Whether the bytes are a FASC-N.
-pub fn is_fascn(bytes: &[u8]) -> bool
-    ensures { result ≡ is_fascn bytes.now }
-{
-    let Some(characters) = characters_in(bytes) else {
-        return false;
-    };
-    is_framed(values_of(characters))
 }
 
 // The numbers of 25 conforming bytes.

@@ -1,4 +1,4 @@
--- Demand 1, of all thirteen calls. Assumes nothing.
+-- Demand 1, of all fourteen calls. Assumes nothing.
 use Prim.Native.Nat.{ℕ, ◌+◌, ◌≤◌}
 use mathlib.Core.Logic.{◌⊎◌, inl, inr}
 use mathlib.Core.Path.{◌≡◌, refl, sym, ap, ◌∙◌}
@@ -37,6 +37,9 @@ use Rattle.report.specs.Calls.{report_output}
 use Rattle.report.proofs.Answers.{report-cases}
 use Rattle.prosianek.proofs.Checking.{answered}
 use Rattle.prosianek.proofs.Decoding.{is-decoded, decoded-else}
+use Rattle.prosianek.proofs.ByTable.{is-read}
+use Rattle.by_table.specs.Each.{entries, number_of_each}
+use Rattle.promises.proofs.ByTable.{decode_by_table_clean}
 use Rattle.promises.specs.Demands.{Numbered, Clean, Demand1}
 use Rattle.promises.proofs.Listing.{lists-answer, points-answer, lists_clean, points_clean, no-counts}
 use Rattle.promises.proofs.Signing.{signer-answer}
@@ -125,6 +128,7 @@ demand-1 = record {
   points_answers = λ today c before b. points-answer b before;
   signer_answers = signer-answer;
   decode_answers = λ s b. (decoded s, is-decoded s b refl, decoded-numbered s);
+  decode_by_table_answers = λ bytes before b. let a = is-read bytes before (entries bytes (length before)) (number_of_each (length bytes) (length before)) b refl refl in (_, _, a);
   encode_answers = λ n before. (_, _, record { leaves = record { answer = refl; room = refl } });
   step_answers = λ s piece. (over s piece, record { goes_on = refl });
   end_answers = λ today s. (ended today s, record { answer = refl }, end-numbered today s);
@@ -139,4 +143,5 @@ demand-1 = record {
   lists_clean = λ today c before after r h. (lists_clean h.fills, no-counts h.fills.says);
   points_clean = λ today c before after r h. (points_clean h.fills, no-counts h.fills.says);
   decode_clean = λ s r d z. let e = decoded-else s d z in (ap (λ (x : Decoded). x.number) e, ap (λ (x : Decoded). x.numbers) e);
+  decode_by_table_clean = decode_by_table_clean;
 }

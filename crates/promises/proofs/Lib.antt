@@ -1,4 +1,5 @@
 pub mod Rooms
+pub mod ByTable
 pub mod Listing
 pub mod Signing
 pub mod Folding
@@ -7,4 +8,5 @@ pub mod Demand2
 pub mod Demand3
 pub mod AtTheDesk
 pub mod Damage
+pub mod TwoReaders
 pub mod Settled

@@ -13,6 +13,7 @@ use Rattle.sheet.specs.declared.Checked.{Checked}
 use Rattle.writing.proofs.Calls.{leaves}
 use Rattle.prosianek.proofs.Checking.{only}
 use Rattle.prosianek.proofs.Decoding.{decoded-once}
+use Rattle.prosianek.proofs.ByTable.{read-once}
 use Rattle.capi.specs.Calls.{numbers_of}
 use Rattle.capi.specs.Folder.{state_of}
 use Rattle.points.specs.declared.Listed.{Listed}
@@ -45,6 +46,7 @@ settled = record {
   one_points = λ today c before₁ before₂ after₁ after₂ r₁ r₂ y e a b. points-once y before₁ before₂ after₁ after₂ r₁ r₂ e a.fills b.fills;
   one_signer = λ kind today chuid biometric at own_at n₁ n₂ p₁ p₂ t₁ t₂ w₁ w₂ part₁ part₂ bytes₁ bytes₂ y z. signer-once y z;
   one_decode = λ s r₁ r₂. decoded-once s;
+  one_decode_by_table = λ bytes before₁ before₂ after₁ after₂ n₁ n₂. read-once bytes;
   one_encode = λ n before₁ before₂ after₁ after₂ k₁ k₂ h a b. (
     a.leaves.answer ∙ rw h (sym b.leaves.answer),
     a.leaves.room ∙ rw h (sym b.leaves.room),
@@ -130,6 +132,7 @@ settled-for-c = record {
   one_decode = λ s n₁ n₂ nine₁ nine₂ x y.
       let e = decoded-once s x.answers y.answers in
       (ap (λ (d : Decoded). d.number) e, nine-of nine₁ nine₂ x.nine y.nine (ap (λ (d : Decoded). d.numbers) e));
+  one_decode_by_table = λ bytes before₁ before₂ after₁ after₂ n₁ n₂ h a b. read-once bytes h a.answers b.answers;
   one_encode = λ nine before₁ before₂ after₁ after₂ n₁ n₂ h a b.
       settled.one_encode (numbers_of nine) before₁ before₂ after₁ after₂ n₁ n₂ h a.answers b.answers;
   one_step = λ before piece after₁ after₂ a b. three-of after₁ after₂ a.three b.three (a.answers.goes_on ∙ sym b.answers.goes_on);

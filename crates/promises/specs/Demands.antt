@@ -1,21 +1,24 @@
--- The user's three demands, in the user's order and words, as statements about the thirteen calls of the door (`Checks`, `Writes`, `Views`, `Reports`, `Lists`,
--- `Points`, `Signers`, `Decodes`, `Encodes`, `FolderSteps`, `FolderEnds`, `Rows`, `Lasts`: what a call answers and leaves; `Judges`: the verdict that a check gives). Each is a record of statements, and
+-- The user's three demands, in the user's order and words, as statements about the fourteen calls of the door (`Checks`, `Writes`, `Views`, `Reports`, `Lists`,
+-- `Points`, `Signers`, `Decodes`, `DecodesByTable`, `Encodes`, `FolderSteps`, `FolderEnds`, `Rows`, `Lasts`: what a call answers and leaves; `Judges`: the verdict that a check gives). Each is a record of statements, and
 -- `proofs/` has the theorem for each: `demand-1`, `demand-2`, `demand-3`; `at-the-desk`, the third of what the desk program prints; `as_a_List`,
--- `whose-certificate`, `the-orders-folder` and `damage-refused`, what 2026-10, 2026-11, 2026-14 and 2026-08 ask for; `settled` and `settled-for-c`, that no
+-- `whose-certificate`, `the-orders-folder`, `damage-refused` and `two-readers`, what 2026-10, 2026-11, 2026-14, 2026-08 and 2026-09 ask for; `settled` and `settled-for-c`, that no
 -- answer is left open. `no-long-report`, what 2026-12 asks for, stands in the crate `examples` beside the table of examples, since both are computed.
 --
 -- A room is `before` when it is lent and `after` when it comes back. `Bytes c` says that each number of c is below 256, as it is in every slice that a
 -- program can give.
-use Rattle.std.specs.Prelude.{ℕ, suc, ◌+◌, ◌*◌, ◌-◌, ◌^◌, ◌≤◌, ◌<◌, ◌⊎◌, ◌↔◌, ◌≡◌, Bool, List, [], ◌∷◌, ◌++◌, map, length, take, drop, get_or, replicate}
+use Rattle.std.specs.Prelude.{ℕ, suc, ◌+◌, ◌*◌, ◌-◌, ◌/◌, ◌%◌, ◌^◌, ◌≤◌, ◌<◌, ◌⊎◌, ◌↔◌, ◌≡◌, Bool, Option, List, [], ◌∷◌, ◌++◌, map, length, take, drop, get_or, replicate}
 use Rattle.std.proofs.Math.Option.{none, some}
 use Rattle.laws.specs.Bytes.{Bytes}
 use Rattle.laws.specs.Room.{zeros, filled}
 use Rattle.laws.specs.Layout.{joined, part}
 use Rattle.dates.specs.Date.{IsDate, IsTextDate}
-use Rattle.fascn.specs.Fascn.{IsFascnOf, IsFascn}
-use Rattle.fascn.specs.Calls.{no_numbers}
+use Rattle.fascn.specs.Fascn.{symbol, IsFascnOf, IsFascn}
+use Rattle.fascn.specs.Calls.{no_numbers, decoded_by}
+use Rattle.fascn.specs.Reading.{decoded}
 use Rattle.fascn.specs.declared.Numbers.{Numbers}
 use Rattle.fascn.specs.declared.Decoded.{Decoded}
+use Rattle.pairs.specs.Pairs.{entry}
+use Rattle.by_table.specs.Calls.{AreStrings, no_answer, listed}
 use Rattle.verdicts.specs.Verdicts.{Tag, number_of, no_tag, tag_number, outright, found}
 use Rattle.verdicts.specs.Output.{refusal, done_of}
 use Rattle.verdicts.specs.declared.Fault.{Fault}
@@ -51,9 +54,9 @@ use Rattle.summary.specs.Rows.{row_text, row_room, start, fails}
 use Rattle.summary.specs.Summary.{first_offset, next_offset, offset_after, row_for, after_one, conforming, Carries, Agree, IsSummary}
 use Rattle.summary.specs.declared.Tally.{Tally}
 use Rattle.summary.specs.declared.Rowed.{Rowed}
-use Rattle.prosianek.specs.Calls.{Judges, Checks, Writes, Views, Reports, Lists, Points, Signers, Decodes, Encodes, FolderSteps, FolderEnds, Rows, Lasts}
+use Rattle.prosianek.specs.Calls.{Judges, Checks, Writes, Views, Reports, Lists, Points, Signers, Decodes, DecodesByTable, Encodes, FolderSteps, FolderEnds, Rows, Lasts}
 use Rattle.printout.specs.Printout.{refused_text, printed, kind_text, Asks}
-use Rattle.capi.specs.Calls.{CChecks, CWrites, CViews, CReports, CLists, CSigners, CDecodes, CEncodes}
+use Rattle.capi.specs.Calls.{CChecks, CWrites, CViews, CReports, CLists, CSigners, CDecodes, CDecodesByTable, CEncodes}
 use Rattle.capi.specs.Folder.{CFolderSteps, CFolderEnds, CRows, CLasts}
 use Rattle.std.specs.Prelude.{Some, None}
 
@@ -98,6 +101,7 @@ pub record Demand1 : Type 0 where
   pub signer_answers : (kind today : ℕ) (chuid biometric : List ℕ) (at own_at : ℕ × ℕ) → Bytes chuid → Bytes biometric
       → (number place tag which : ℕ) × (part : ℕ × ℕ) × (bytes : List ℕ) × Signers kind today chuid biometric at own_at number place tag which part bytes × Numbered number
   pub decode_answers : (s : List ℕ) → Bytes s → (r : Decoded) × Decodes s r × Numbered r.number
+  pub decode_by_table_answers : (bytes : List ℕ) (before : List Decoded) → Bytes bytes → (after : List Decoded) × (number : ℕ) × DecodesByTable bytes before after number
   pub encode_answers : (n : Numbers) (before : List ℕ) → (after : List ℕ) × (number : ℕ) × Encodes n before after number
   pub step_answers : (s : State) (piece : List ℕ) → (r : State) × FolderSteps s piece r
   pub end_answers : (today : ℕ) (s : State) → (number : ℕ) × FolderEnds today s number × Numbered number
@@ -121,6 +125,9 @@ pub record Demand1 : Type 0 where
       → CleanOf nothing before after r.verdict.number (r.first + r.second) × ((r.verdict.number ≡ 0 → ⊥) → (r.first ≡ 0) × (r.second ≡ 0))
   -- "any string but 25 conforming bytes is 17, with all nine numbers 0"
   pub decode_clean : (s : List ℕ) (r : Decoded) → Decodes s r → (r.number ≡ 0 → ⊥) → (r.number ≡ number_of BadFascn) × (r.numbers ≡ no_numbers)
+  -- 2026-09: of many strings, the entries behind the last are empty, and a refusal leaves empty ones alone
+  pub decode_by_table_clean : (bytes : List ℕ) (before after : List Decoded) (number : ℕ) → DecodesByTable bytes before after number
+      → ((number ≡ 0) × CleanOf no_answer before after number (length bytes / 25)) ⊎ ((number ≡ 0 → ⊥) × CleanOf no_answer before after number 0)
 
 -- ---- Demand 2. "Under a given date a container of a known kind conforms exactly when some values allowed by the rules are written as those bytes;
 -- otherwise the first broken rule and its place are named. Writing the values that were read gives the container back byte for byte, and reading what was
@@ -548,6 +555,34 @@ pub record DamageRefused : Type 0 where
   pub zeros_to_threes : (s t : List ℕ) (n m : Numbers) → IsFascnOf s n → IsFascnOf t m → ZerosToThrees n m → Damaged 7 s t
   pub seven_too_many : (s : List ℕ) × (t : List ℕ) × IsFascn s × IsFascn t × Damaged 7 s t
 
+-- ---- 2026-09. "The yearly re-check reads two million headers. Add a second reader that takes ten bits at once through a table of 1,024 entries .. : the two
+-- values, or bad. It must agree with the first reader on all strings of 25 bytes, which is proved, and the first stays as the plain engine."
+
+pub record TwoReaders : Type 0 where
+  -- "the two values, or bad": of the characters of two values the table has these; and where a character is none it has 16, which is no value
+  pub table_values : (v w : ℕ) → v < 16 → w < 16 → ((entry (symbol v * 32 + symbol w)).first ≡ v) × ((entry (symbol v * 32 + symbol w)).second ≡ w)
+  pub table_or_bad : (x : ℕ) → x < 1024
+      → (((entry x).first ≡ 16) ⊎ ((entry x).first < 16 × (symbol (entry x).first ≡ x / 32))) × (((entry x).second ≡ 16) ⊎ ((entry x).second < 16 × (symbol (entry x).second ≡ x % 32)))
+  -- "It must agree with the first reader": what `fascn::decode` and `by_table::decode` promise of their answers is the same, whatever the bytes and however many
+  pub one_contract : (s : List ℕ) (first second : Option Numbers) → decoded_by first ≡ decoded s → decoded_by second ≡ decoded s → first ≡ second
+  -- "on all strings of 25 bytes": one string, and a room for one answer or more
+  pub one_string : (s : List ℕ) → length s ≡ 25 → (r : Decoded) → Decodes s r → (before after : List Decoded) (number : ℕ) → 1 ≤ length before
+      → DecodesByTable s before after number → (number ≡ 0) × (after ≡ listed (r ∷ []) (length before))
+  -- and each of many strings: its entry is what the first reader answers of it
+  pub each_string : (bytes : List ℕ) (strings : List (List ℕ)) → AreStrings bytes strings → (before after : List Decoded) → DecodesByTable bytes before after 0
+      → (i : ℕ) → i < length strings → (r : Decoded) → Decodes (get_or strings i []) r → get_or after i no_answer ≡ r
+  -- bytes are strings of 25 exactly where none are left over, and of one list alone
+  pub has_strings : (bytes : List ℕ) → length bytes % 25 ≡ 0 → (strings : List (List ℕ)) × AreStrings bytes strings × (length strings ≡ length bytes / 25)
+  pub only_strings : (bytes : List ℕ) (strings others : List (List ℕ)) → AreStrings bytes strings → AreStrings bytes others → strings ≡ others
+  -- where bytes are left over both readers refuse them with 17, and of one string that is any length under 50 but 25
+  pub left_over : (bytes : List ℕ) → (length bytes % 25 ≡ 0 → ⊥) → (before after : List Decoded) (number : ℕ) → DecodesByTable bytes before after number
+      → (r : Decoded) → Decodes bytes r → (number ≡ number_of BadFascn) × (r.number ≡ number_of BadFascn)
+  -- then 3 for a list that is too short, and else 0
+  pub too_short : (bytes : List ℕ) → length bytes % 25 ≡ 0 → (before after : List Decoded) (number : ℕ) → length before < length bytes / 25
+      → DecodesByTable bytes before after number → number ≡ number_of SmallRoom
+  pub long_enough : (bytes : List ℕ) → length bytes % 25 ≡ 0 → (before after : List Decoded) (number : ℕ) → length bytes / 25 ≤ length before
+      → DecodesByTable bytes before after number → number ≡ 0
+
 -- ---- "For each public call the contract determines number, place, returned part and each byte of lent room, on every input and every refusal. Any two
 -- results that satisfy it are shown equal." The tag is a part of the answer as the place is. Rooms of one length may have held anything before. (A returned part has a block, an offset and bytes; the ghost
 -- name of its reference is no value, and is left open.)
@@ -570,6 +605,8 @@ pub record Settled : Type 0 where
       → Bytes chuid → Bytes biometric → Signers kind today chuid biometric at own_at n₁ p₁ t₁ w₁ part₁ bytes₁ → Signers kind today chuid biometric at own_at n₂ p₂ t₂ w₂ part₂ bytes₂
       → (n₁ ≡ n₂) × (p₁ ≡ p₂) × (t₁ ≡ t₂) × (w₁ ≡ w₂) × (part₁ ≡ part₂) × (bytes₁ ≡ bytes₂)
   pub one_decode : (s : List ℕ) (r₁ r₂ : Decoded) → Decodes s r₁ → Decodes s r₂ → r₁ ≡ r₂
+  pub one_decode_by_table : (bytes : List ℕ) (before₁ before₂ after₁ after₂ : List Decoded) (n₁ n₂ : ℕ) → length before₁ ≡ length before₂
+      → DecodesByTable bytes before₁ after₁ n₁ → DecodesByTable bytes before₂ after₂ n₂ → (n₁ ≡ n₂) × (after₁ ≡ after₂)
   pub one_encode : (n : Numbers) (before₁ before₂ after₁ after₂ : List ℕ) (k₁ k₂ : ℕ) → length before₁ ≡ length before₂
       → Encodes n before₁ after₁ k₁ → Encodes n before₂ after₂ k₂ → (k₁ ≡ k₂) × (after₁ ≡ after₂)
   pub one_step : (s : State) (piece : List ℕ) (r₁ r₂ : State) → FolderSteps s piece r₁ → FolderSteps s piece r₂ → r₁ ≡ r₂
@@ -598,6 +635,8 @@ pub record SettledForC : Type 0 where
       → CSigners kind today chuid biometric n₁ p₁ t₁ w₁ o₁ l₁ → CSigners kind today chuid biometric n₂ p₂ t₂ w₂ o₂ l₂
       → (n₁ ≡ n₂) × (p₁ ≡ p₂) × (t₁ ≡ t₂) × (w₁ ≡ w₂) × (o₁ ≡ o₂) × (l₁ ≡ l₂)
   pub one_decode : (s : List ℕ) (n₁ n₂ : ℕ) (nine₁ nine₂ : List ℕ) → CDecodes s n₁ nine₁ → CDecodes s n₂ nine₂ → (n₁ ≡ n₂) × (nine₁ ≡ nine₂)
+  pub one_decode_by_table : (bytes : List ℕ) (before₁ before₂ after₁ after₂ : List Decoded) (n₁ n₂ : ℕ) → length before₁ ≡ length before₂
+      → CDecodesByTable bytes before₁ after₁ n₁ → CDecodesByTable bytes before₂ after₂ n₂ → (n₁ ≡ n₂) × (after₁ ≡ after₂)
   pub one_encode : (nine before₁ before₂ after₁ after₂ : List ℕ) (n₁ n₂ : ℕ) → length before₁ ≡ length before₂
       → CEncodes nine before₁ after₁ n₁ → CEncodes nine before₂ after₂ n₂ → (n₁ ≡ n₂) × (after₁ ≡ after₂)
   pub one_step : (before piece after₁ after₂ : List ℕ) → CFolderSteps before piece after₁ → CFolderSteps before piece after₂ → after₁ ≡ after₂

@@ -1,11 +1,14 @@
--- The thirteen calls of the door. Each record is the whole contract of one call: what it answers and what it leaves, on every input. Nothing is asked of
+-- The fourteen calls of the door. Each record is the whole contract of one call: what it answers and what it leaves, on every input. Nothing is asked of
 -- a caller, and nothing of the answer is left open (`promises`, `Settled`).
-use Rattle.std.specs.Prelude.{ℕ, ◌⊎◌, ◌≡◌, List, length}
+use Rattle.std.specs.Prelude.{⊤, ℕ, ◌⊎◌, ◌≡◌, ◌<◌, ◌≤◌, List, [], ◌∷◌, length}
 use Rattle.fascn.specs.Fascn.{IsFascnOf, IsFascn}
 use Rattle.fascn.specs.Calls.{success, refused, Encoded}
 use Rattle.fascn.specs.declared.Numbers.{Numbers}
 use Rattle.fascn.specs.declared.Decoded.{Decoded}
+use Rattle.by_table.specs.Calls.{AreStrings, listed}
+use Rattle.verdicts.specs.Verdicts.{number_of}
 use Rattle.verdicts.specs.Output.{Leaves}
+use Rattle.verdicts.specs.declared.Fault.TheVariants.{SmallRoom, BadFascn}
 use Rattle.verdicts.specs.declared.Verdict.{Verdict}
 use Rattle.verdicts.specs.declared.Done.{Done}
 use Rattle.container.specs.Reading.{verdict}
@@ -63,6 +66,25 @@ pub record Signers (kind today : ℕ) (chuid biometric : List ℕ) (chuid-at bio
 -- "Decoding alone: any string but 25 conforming bytes is 17, with all nine numbers 0": the nine numbers whose FASC-N these bytes are; or there are none
 pub record Decodes (s : List ℕ) (r : Decoded) : Type 0 where
   pub answer : ((n : Numbers) × IsFascnOf s n × (r ≡ success n)) ⊎ ((IsFascn s → ⊥) × (r ≡ refused))
+
+-- 2026-09, "a second reader": what it lists of each string is what decoding that string alone answers
+abbrev pub DecodesEach : List (List ℕ) → List Decoded → Type 0
+DecodesEach [] [] = ⊤
+DecodesEach [] (r ∷ rs) = ⊥
+DecodesEach (s ∷ ss) [] = ⊥
+DecodesEach (s ∷ ss) (r ∷ rs) = Decodes s r × DecodesEach ss rs
+
+-- of some bytes, with so many entries lent, the number and the answers that are listed: 17 where bytes are left over, 3 where there are more strings than entries
+pub data Reads (bytes : List ℕ) (room number : ℕ) (answers : List Decoded) : Type 0 where
+  left_over : ((strings : List (List ℕ)) → AreStrings bytes strings → ⊥) → number ≡ number_of BadFascn → answers ≡ [] → Reads bytes room number answers
+  too_short : (strings : List (List ℕ)) → AreStrings bytes strings → room < length strings → number ≡ number_of SmallRoom → answers ≡ [] → Reads bytes room number answers
+  fits : (strings : List (List ℕ)) → AreStrings bytes strings → length strings ≤ room → number ≡ 0 → DecodesEach strings answers → Reads bytes room number answers
+
+-- many strings at once; the list that was `before` is left as `after`
+pub record DecodesByTable (bytes : List ℕ) (before after : List Decoded) (number : ℕ) : Type 0 where
+  pub answers : List Decoded
+  pub reads : Reads bytes (length before) number answers
+  pub left : after ≡ listed answers (length before)
 
 -- "Encoding alone: 7, then 3 for a room under 25."
 pub record Encodes (n : Numbers) (before after : List ℕ) (number : ℕ) : Type 0 where

@@ -1,11 +1,11 @@
-// The door: the thirteen calls, and nothing else. Each contract is one record of specs/Calls.antt.
+// The door: the fourteen calls, and nothing else. Each contract is one record of specs/Calls.antt.
 //
 // kind is 1 CCC, 2 CHUID, 3 DISCOVERY, 4 PRINTED, 5 SECURITY, 6 FINGERS, 7 FACE, 8 PIVAUTH, 9 DIGSIG, 10 KEYMGMT, 11 CARDAUTH,
 // 12 IRIS; today is a date as an eight-digit number.
 // Every input gets an answer. A room that is lent holds the output afterwards, and zeros: nothing of what was there.
 #![tactic(auto)]
 
-ghost use Rattle.prosianek.specs.Calls.{Checks, Writes, Views, Reports, Lists, Points, Signers, Decodes, Encodes, FolderSteps, FolderEnds, Rows, Lasts};
+ghost use Rattle.prosianek.specs.Calls.{Checks, Writes, Views, Reports, Lists, Points, Signers, Decodes, DecodesByTable, Encodes, FolderSteps, FolderEnds, Rows, Lasts};
 ghost use Rattle.points.specs.Calls.{five};
 
 use fascn::{Decoded, Numbers};
@@ -97,11 +97,19 @@ pub fn signer<'a>(
     signer::signer(kind, today, chuid, biometric, number, place, tag, which)
 }
 
-// The nine numbers of a FASC-N.
+// The nine numbers of a FASC-N, by the first reader, which takes it character by character.
 pub fn decode(bytes: &[u8]) -> Decoded
     ensures { Decodes bytes.now result }
 {
     fascn::decode(bytes).into()
+}
+
+// The same of many FASC-N at once, by the second reader, which takes two characters at a time through a table: strings of 25 bytes, one
+// after the other, and an entry for what `decode` answers of each.
+pub fn decode_by_table(strings: &[u8], list: &mut [Decoded]) -> u64
+    ensures { DecodesByTable strings.now list.old list.new result }
+{
+    verdicts::code_of(by_table::decode_each(strings, list))
 }
 
 // The FASC-N of nine numbers.

@@ -33,7 +33,7 @@ pub fn judge(rule: ValueRule, today: u64, v: &[u8]) -> Result<(), Fault>
 {
     match rule {
         ValueRule::Free => Ok(()),
-        ValueRule::Fascn => unless(Fault::BadFascn, fascn::is_fascn(v)),
+        ValueRule::Fascn => unless(Fault::BadFascn, by_table::is_fascn(v)),
         ValueRule::Uuid => unless(Fault::BadUuid, plain::is_uuid(v)),
         ValueRule::Expiry => expiry(today, dates::date_of(v)),
         ValueRule::Model => unless(Fault::BadFixed, plain::same(v, b"\x10")),

@@ -55,13 +55,13 @@ fn told(seed: u64, smears: impl Iterator<Item = Case>) -> u64 {
 }
 
 /// Whether the sweep tells what it has to: nothing as it is, what conforms instead of its first smear or its last on both sides, which
-/// answer alike there, a smear that is left out, and that there are none.
+/// answer alike there, a smear that is left out, and that there are none. The first is told of both readers.
 pub(super) fn are_judged(seed: u64) -> bool {
     let (first, last) = (0, SWEPT_SMEARS as usize - 1);
     let (_, iris) = holding(IRIS, &EXAMPLE_3301);
     let outcomes = [
         ("as it is", told(seed, swept_smears()), 0),
-        ("with a FASC-N that conforms", told(seed, with_other_bytes(first, EXAMPLE_3301.to_vec())), 2),
+        ("with a FASC-N that conforms", told(seed, with_other_bytes(first, EXAMPLE_3301.to_vec())), 3),
         ("with a container that conforms", told(seed, with_other_bytes(last, iris)), 2),
         ("without the first", told(seed, swept_smears().skip(1)), 1),
         ("without any", told(seed, empty()), 1),
