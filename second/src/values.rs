@@ -88,6 +88,8 @@ pub fn fascn_decode(bytes: &[u8]) -> (u64, [u64; 9]) {
 }
 
 /// What one of several strings answers: the number, and the nine numbers of a FASC-N. The default is what is behind the last string.
+/// It lies as `struct prosianek_decoded` does in C.
+#[repr(C)]
 #[derive(Clone, Copy, Debug, Default, PartialEq, Eq)]
 pub struct Decoded {
     pub number: u64,

@@ -1,7 +1,7 @@
 -- Twenty pairs are judged, and numbers read off them, as the forty values are. Assumes nothing.
-use mathlib.Core.Path.{◌≡◌, refl, sym, ap, ap₂, ◌∙◌}
+use mathlib.Core.Path.{◌≡◌, refl, sym, ap, ◌∙◌}
 use mathlib.Core.Bool.{Bool, true, false, cond, ◌&&◌, and_assoc}
-use mathlib.Core.List.{List, [], ◌∷◌, ◌++◌, map}
+use mathlib.Core.List.{List, [], ◌∷◌, map}
 use Prim.Native.Nat.{ℕ, zero, suc, ◌+◌, ◌*◌, ◌/◌, ◌%◌, ◌^◌, ◌≤◌, ◌<◌}
 use native.Mathlib.Nat.{div-div-eq-div-mul, pow-suc}
 use native.Mathlib.Omega.{arith}
@@ -22,7 +22,6 @@ use Rattle.fascn.specs.Fascn.{exclusive}
 use Rattle.fascn.specs.Reading.{plain, value_of, values_of, is_digit, framed, fields}
 use Rattle.pairs.specs.Pairs.{same_sort, sort_of, entry}
 use Rattle.pairs.specs.declared.Pair.{Pair}
-use Rattle.pairs.specs.declared.Sort.{Sort}
 use Rattle.pairs.specs.declared.Sort.TheVariants.{Digits, Start, Before, Behind, End}
 use Rattle.by_table.specs.Reading.{pairs_of, in_place, framed_by, numbers_of}
 

@@ -1,17 +1,16 @@
 -- Bytes that are strings of 25, one after the other: there is one list of them, and each stands where it is read. Assumes nothing.
 use mathlib.Core.Path.{◌≡◌, refl, sym, ap, ap₂, ◌∙◌}
-use mathlib.Core.Bool.{true, false, cond}
 use mathlib.Core.List.{List, [], ◌∷◌, ◌++◌, map}
 use Prim.Native.Nat.{ℕ, zero, suc, ◌+◌, ◌-◌, ◌*◌, ◌/◌, ◌%◌, ◌<◌, ◌≤◌}
 use native.Mathlib.Nat.{zero-add}
 use native.Mathlib.Omega.{arith}
-use lib.Dec.{leb, ltb, eqb}
+use lib.Dec.{ltb, eqb}
 use lib.ListN.{length, take, drop, replicate, length-append, length-drop, take-append-drop, length-map}
 use lib.Seq.{take-append_seam, drop-append_seam, drop-drop, drop-length, length-take-le}
 use borrow.Author.Tests.{le-leb, lt-leb, ltb-true, lt-ltb, eqb-true}
 use Rattle.std.specs.List.{range_with_len}
 use Rattle.std.specs.Prelude.{Ok, Err}
-use Rattle.laws.specs.Layout.{joined, part}
+use Rattle.laws.specs.Layout.{joined}
 use Rattle.laws.proofs.Cases.{not_so}
 use Rattle.verdicts.specs.declared.Fault.TheVariants.{SmallRoom, BadFascn}
 use Rattle.fascn.specs.Reading.{decoded}

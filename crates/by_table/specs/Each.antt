@@ -1,5 +1,5 @@
 -- How many strings are gone through. Nothing of this need be believed: `proofs/Each.antt` ties it to the list of strings.
-use Rattle.std.specs.Prelude.{◌≡◌, cond, List, map, ℕ, ◌*◌, ◌/◌, ◌%◌, ltb, leb, eqb, length, Result, Ok, Err}
+use Rattle.std.specs.Prelude.{cond, List, map, ℕ, ◌*◌, ◌/◌, ◌%◌, ltb, leb, eqb, length, Result, Ok, Err}
 use Rattle.std.specs.List.{range_with_len}
 use Rattle.std.specs.Result.{result_unwrap_or}
 use Rattle.laws.specs.Layout.{part}

@@ -1,5 +1,5 @@
 -- The FASC-N read pair by pair. `proofs/Agree.antt` shows that this reads what the first reader does, so that nothing here need be believed.
-use Rattle.std.specs.Prelude.{◌≡◌, Bool, ◌&&◌, List, [], ◌∷◌, map, ℕ, ◌+◌, ◌*◌, eqb, get_or}
+use Rattle.std.specs.Prelude.{Bool, ◌&&◌, List, [], ◌∷◌, map, ℕ, ◌+◌, ◌*◌, eqb, get_or}
 use Rattle.std.specs.List.{fold}
 use Rattle.std.specs.Int.Bits.{bit_xor}
 use Rattle.laws.specs.Digits.{digits, value}
@@ -8,7 +8,7 @@ use Rattle.fascn.specs.declared.Numbers.{Numbers}
 use Rattle.pairs.specs.Pairs.{same_sort, entry}
 use Rattle.pairs.specs.declared.Pair.{Pair}
 use Rattle.pairs.specs.declared.Sort.{Sort}
-use Rattle.pairs.specs.declared.Sort.TheVariants.{Digits, Start, Before, Behind, End, Other}
+use Rattle.pairs.specs.declared.Sort.TheVariants.{Digits, Start, Before, Behind, End}
 
 -- "ten bits at once"
 abbrev pub pairs_of : List ℕ → List Pair

@@ -1,6 +1,6 @@
 -- Nine of the calls that C has: those of the door but the list of points, which C has as five lists, and those of a folder (`Folder.antt`). Each record is the
 -- whole contract of one function: the record of the door's call, of the numbers that the function answers and stores. A verdict's tag is stored by its number. Nothing is left open (`promises`, `SettledForC`).
-use Rattle.std.specs.Prelude.{ℕ, ◌≡◌, List, length, get_or}
+use Rattle.std.specs.Prelude.{ℕ, ◌≡◌, List, length, get_or, None}
 use Rattle.fascn.specs.declared.Numbers.{Numbers}
 use Rattle.fascn.specs.declared.Decoded.{Decoded}
 use Rattle.verdicts.specs.Verdicts.{Tag, tag_number}
@@ -8,7 +8,6 @@ use Rattle.views.specs.Views.{viewed}
 use Rattle.points.specs.Calls.{Five}
 use Rattle.signer.specs.Signer.{Signed, Says}
 use Rattle.prosianek.specs.Calls.{Checks, Writes, Reports, Lists, Decodes, DecodesByTable, Encodes}
-use Rattle.std.specs.Prelude.{None}
 
 -- nine numbers in 01's order: agency, system, credential, series, issue, person, category, organisation, association
 abbrev pub numbers_of : List ℕ → Numbers

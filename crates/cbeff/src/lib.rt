@@ -8,9 +8,9 @@ ghost use Rattle.verdicts.specs.Verdicts.{ruled};
 ghost use Rattle.cbeff.specs.Header.{fingers, face, iris, header, data_part};
 ghost use Rattle.cbeff.specs.Judged.{sizes_hold, dates_hold, form_holds};
 
+use by_table::is_fascn;
 use dates::is_moment;
 use facial::is_facial;
-use by_table::is_fascn;
 use iris::is_iris;
 use minutiae::is_minutiae;
 use numbers::number;

@@ -559,7 +559,7 @@ all_so [] t = tt
 all_so (e ∷ es) t = let c = and-true (tested e) (all_tested es) t in (so e c.0, all_so es c.1)
 
 all_tested_lem : all_tested examples ≡ true
-unfolding all_tested tested are_bytes spanned all_below is_none is_length same_tag same_output same_point same_points same_told holds_each points_of examples ones digits exclusive values checked characters encoded values_of framed decoded is_fascn length_bytes read_length days_in exists is_date date_of two_digits month_number is_printed_date is_moment is_uuid is_policy is_text ended is_creator point_holds points_hold view_head fills whole extent record_head is_minutiae informed block_extent face_head is_facial date_holds marks_hold shape_holds iris_extent iris_head is_iris read_der head_of items walked block.next block.find block.signed_data block.content_info certificate rule_of element located parsed outcome sheet_of write_output fixed decimal hex2 hex_tag card_part element_lines element_count open_part report_text report_output viewed block_of signed_of are_entries same_tally same_row one over row_text last_text seen quick_row last_output
+unfolding all_tested tested are_bytes spanned all_below is_none is_length same_tag same_output same_point same_points same_told holds_each points_of examples ones digits exclusive values checked characters encoded values_of framed decoded is_fascn length_bytes read_length days_in exists is_date date_of two_digits month_number is_printed_date is_moment is_uuid is_policy is_text ended is_creator point_holds points_hold view_head fills whole extent record_head is_minutiae informed block_extent face_head is_facial date_holds marks_hold shape_holds iris_extent iris_head is_iris read_der head_of items walked block.next block.find block.signed_data block.content_info certificate rule_of element located parsed outcome sheet_of write_output fixed decimal hex2 hex_tag card_part element_lines element_count open_part report_text report_output viewed block_of signed_of are_entries same_tally same_row one over row_text last_text seen quick_row last_output entry planned entry_at entries_of same_answers same_decoded numbers_tests
 all_tested_lem = refl
 
 pub examples-hold : All examples

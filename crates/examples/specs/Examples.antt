@@ -1,5 +1,5 @@
 -- The examples of document 01, P1 to P14, those of requests 2026-04, 2026-13, 2026-02, 2026-01, 2026-03, 2026-05, 2026-06, 2026-12, 2026-10, 2026-11, 2026-14 and 2026-08, and further rows, as one table: what each row says, over the rules themselves, and the table.
-use Rattle.std.specs.Prelude.{ℕ, zero, suc, ◌+◌, ◌-◌, ◌≡◌, List, [], ◌∷◌, ◌++◌, length, take, drop, get_or, set, replicate}
+use Rattle.std.specs.Prelude.{ℕ, zero, suc, ◌+◌, ◌-◌, ◌≡◌, List, [], ◌∷◌, ◌++◌, length, take, drop, get_or, set, replicate, Some, None}
 use Rattle.std.proofs.Math.Option.{Option, none, some}
 use Rattle.laws.specs.Ascii.{ascii}
 use Rattle.laws.specs.Layout.{number}
@@ -8,7 +8,7 @@ use Rattle.fascn.specs.Fascn.{IsFascnOf, IsFascn}
 use Rattle.fascn.specs.Calls.{success, refused}
 use Rattle.fascn.specs.declared.Numbers.{Numbers}
 use Rattle.fascn.specs.declared.Decoded.{Decoded}
-use Rattle.pairs.specs.Pairs.{entry}
+use Rattle.pairs.specs.Pairs.{entry as table_entry}
 use Rattle.by_table.specs.Calls.{no_answer}
 use Rattle.lengths.specs.Length.{Spells}
 use Rattle.dates.specs.Date.{IsDate, InWindow}
@@ -32,7 +32,6 @@ use Rattle.summary.specs.declared.Tally.{Tally}
 use Rattle.summary.specs.declared.Rowed.{Rowed}
 use Rattle.prosianek.specs.Calls.{Checks, Writes, Reports, Lists, Points, Signers, DecodesByTable, Rows, Lasts}
 use Rattle.promises.specs.Demands.{sizes}
-use Rattle.std.specs.Prelude.{Some, None}
 
 -- ---- what a row of the table says
 
@@ -74,7 +73,7 @@ Holds (no_fascn s) = IsFascn s → ⊥  -- they are that of none
 -- t is s damaged within so many neighbouring bits, those from this one on, of which the first and the last are changed: the damage spans them all
 Holds (spans width first s t) = (d : Damaged width s t) × (d.first ≡ first) × (bit t first ≡ bit s first → ⊥) × (bit t (first + (width - 1)) ≡ bit s (first + (width - 1)) → ⊥)
 -- ten bits have these two values in the table, where 16 is bad
-Holds (has_values x first second) = ((entry x).first ≡ first) × ((entry x).second ≡ second)
+Holds (has_values x first second) = ((table_entry x).first ≡ first) × ((table_entry x).second ≡ second)
 -- the call for many strings, with a list that was `before`, answers this number and leaves `after`
 Holds (decodes_each bytes before number after) = DecodesByTable bytes before after number
 Holds (spells s n) = Spells s n  -- these bytes are the length

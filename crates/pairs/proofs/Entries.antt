@@ -1,7 +1,7 @@
 -- The table's rule, carried to each entry. That a table is this list is one computed test over all of it. Assumes nothing.
 use mathlib.Core.Path.{◌≡◌}
 use mathlib.Core.List.{List, map}
-use Prim.Native.Nat.{ℕ, ◌+◌, ◌<◌}
+use Prim.Native.Nat.{ℕ, ◌<◌}
 use native.Mathlib.Nat.{zero-add}
 use lib.ListN.{get_or}
 use Rattle.std.proofs.lemmas.List.FromFn.{get_or-map-range_with_len}

@@ -1,8 +1,8 @@
 -- 2026-09: what decoding many strings leaves in its list. Assumes nothing.
-use Prim.Native.Nat.{ℕ, ◌-◌, ◌*◌, ◌/◌, ◌≤◌}
+use Prim.Native.Nat.{ℕ, ◌-◌, ◌/◌, ◌≤◌}
 use mathlib.Core.Logic.{◌⊎◌, inl, inr}
-use mathlib.Core.Path.{◌≡◌, refl, sym, ap, ◌∙◌}
-use mathlib.Core.List.{List, [], ◌∷◌, ◌++◌}
+use mathlib.Core.Path.{◌≡◌, refl, sym, ◌∙◌}
+use mathlib.Core.List.{List, [], ◌∷◌}
 use native.Mathlib.Omega.{arith}
 use lib.ListN.{length, drop, replicate, length-append, length-replicate}
 use lib.Seq.{drop-append_seam}
@@ -11,7 +11,7 @@ use Rattle.verdicts.specs.declared.Fault.{Fault}
 use Rattle.verdicts.specs.declared.Fault.TheVariants.{SmallRoom, BadFascn}
 use Rattle.verdicts.specs.Verdicts.{number_of}
 use Rattle.verdicts.proofs.Apart.{never-zero}
-use Rattle.by_table.specs.Calls.{AreStrings, no_answer, listed}
+use Rattle.by_table.specs.Calls.{no_answer, listed}
 use Rattle.by_table.proofs.Strings.{only_strings}
 use Rattle.prosianek.specs.Calls.{DecodesEach, Reads, left_over, too_short, fits, DecodesByTable}
 use Rattle.promises.specs.Demands.{CleanOf}

@@ -8,9 +8,9 @@ use native.Mathlib.Decide.{dec_lt}
 use native.Mathlib.Nat.{le_of_suc-le-suc, not-suc-le-zero}
 use lib.ListN.{length, get_or}
 use Rattle.std.specs.Prelude.{Option, Some, None}
-use Rattle.fascn.specs.Fascn.{symbol, IsFascn}
+use Rattle.fascn.specs.Fascn.{symbol}
 use Rattle.fascn.specs.Calls.{decoded_by}
-use Rattle.fascn.specs.Reading.{value_of, decoded}
+use Rattle.fascn.specs.Reading.{value_of}
 use Rattle.fascn.specs.declared.Decoded.{Decoded}
 use Rattle.fascn.specs.declared.Numbers.{Numbers}
 use Rattle.fascn.proofs.Characters.{symbol-lt, value-symbol, symbol-value}
@@ -24,7 +24,6 @@ use Rattle.by_table.proofs.Strings.{cut_from, are_strings, only_strings as strin
 use Rattle.prosianek.specs.Calls.{Decodes, DecodesEach, Reads, left_over, too_short, fits, DecodesByTable}
 use Rattle.prosianek.proofs.Decoding.{decoded-once, decoded-0, decoded-else}
 use Rattle.promises.specs.Demands.{TwoReaders}
-use Rattle.promises.proofs.ByTable.{each-long}
 
 -- ---- the table
 

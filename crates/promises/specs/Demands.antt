@@ -6,7 +6,7 @@
 --
 -- A room is `before` when it is lent and `after` when it comes back. `Bytes c` says that each number of c is below 256, as it is in every slice that a
 -- program can give.
-use Rattle.std.specs.Prelude.{ℕ, suc, ◌+◌, ◌*◌, ◌-◌, ◌/◌, ◌%◌, ◌^◌, ◌≤◌, ◌<◌, ◌⊎◌, ◌↔◌, ◌≡◌, Bool, Option, List, [], ◌∷◌, ◌++◌, map, length, take, drop, get_or, replicate}
+use Rattle.std.specs.Prelude.{ℕ, suc, ◌+◌, ◌*◌, ◌-◌, ◌/◌, ◌%◌, ◌^◌, ◌≤◌, ◌<◌, ◌⊎◌, ◌↔◌, ◌≡◌, Bool, Option, List, [], ◌∷◌, ◌++◌, map, length, take, drop, get_or, replicate, Some, None}
 use Rattle.std.proofs.Math.Option.{none, some}
 use Rattle.laws.specs.Bytes.{Bytes}
 use Rattle.laws.specs.Room.{zeros, filled}
@@ -58,7 +58,6 @@ use Rattle.prosianek.specs.Calls.{Judges, Checks, Writes, Views, Reports, Lists,
 use Rattle.printout.specs.Printout.{refused_text, printed, kind_text, Asks}
 use Rattle.capi.specs.Calls.{CChecks, CWrites, CViews, CReports, CLists, CSigners, CDecodes, CDecodesByTable, CEncodes}
 use Rattle.capi.specs.Folder.{CFolderSteps, CFolderEnds, CRows, CLasts}
-use Rattle.std.specs.Prelude.{Some, None}
 
 -- ---- Demand 1. "Every byte string, date and room size gets an answer, and every call ends. Bad input is refused by number, without the caller having
 -- checked it. A refusal leaves the lent output room all zeros; a success leaves zeros after the last byte of output."

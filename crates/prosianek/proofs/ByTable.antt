@@ -1,21 +1,19 @@
 -- What decoding many strings answers, string by string. Assumes nothing.
 --     is-read         what the code lists is such an answer
 --     read-once       and the only one
-use Prim.Native.Nat.{ℕ, ◌*◌, ◌/◌, ◌%◌, ◌<◌, ◌≤◌}
+use Prim.Native.Nat.{ℕ, ◌*◌, ◌/◌, ◌%◌, ◌<◌}
 use mathlib.Core.Path.{◌≡◌, refl, sym, ap, ap₂, ◌∙◌}
-use mathlib.Core.Logic.{inl, inr}
-use mathlib.Core.Bool.{true, false}
 use mathlib.Core.List.{List, [], ◌∷◌, ◌++◌, map}
 use native.Mathlib.Omega.{arith}
 use native.Mathlib.Decide.{ℕ_discrete, dec_le}
-use lib.ListN.{length, take, drop}
+use lib.ListN.{length}
 use lib.Seq.{take-append_seam, drop-append_seam}
 use Rattle.laws.specs.Bytes.{Bytes}
 use Rattle.laws.specs.Layout.{joined}
 use Rattle.laws.proofs.Bases.{below-take, below-drop}
 use Rattle.fascn.specs.Reading.{decoded}
 use Rattle.fascn.specs.declared.Decoded.{Decoded}
-use Rattle.by_table.specs.Calls.{AreStrings, listed}
+use Rattle.by_table.specs.Calls.{AreStrings}
 use Rattle.by_table.specs.Each.{entries, number_of_each, done_by}
 use Rattle.by_table.proofs.Strings.{cut_from, are_strings, only_strings, one_list, no_list, left_over as planned_left_over, too_short as planned_too_short, fitting, none-listed, all-listed}
 use Rattle.prosianek.specs.Calls.{DecodesEach, Reads, left_over, too_short, fits, DecodesByTable}

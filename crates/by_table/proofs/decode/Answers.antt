@@ -1,6 +1,6 @@
 -- `by_table::decode` meets its contract: that of the first reader, a law for each way out. Assumes nothing.
-use Rattle.std.proofs.Common.{rules, ◌≡◌, ◌∙◌}
-use Rattle.fascn.specs.Reading.{values_of, framed, fields, decoded}
+use Rattle.std.proofs.Common.{rules}
+use Rattle.fascn.specs.Reading.{decoded}
 use Rattle.by_table.proofs.Agree.{judged, read}
 use Rattle.by_table.proofs.decode.Goals as goal
 

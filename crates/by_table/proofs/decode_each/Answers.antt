@@ -1,6 +1,6 @@
 -- `by_table::decode_each` meets its contract: each turn puts one entry. Assumes nothing.
-use Rattle.std.proofs.Common.{◌≡◌, ◌<◌, ◌*◌, ◌≤◌, length, arith, sym, ◌∙◌}
-use Rattle.by_table.specs.Each.{planned, count_of, entry_at, entries}
+use Rattle.std.proofs.Common.{◌≡◌, length, arith, ◌∙◌}
+use Rattle.by_table.specs.Each.{entry_at, entries}
 use Rattle.by_table.proofs.Each.{reached-next, reached-all, count-inside}
 use Rattle.by_table.proofs.decode_each.Goals as goal
 

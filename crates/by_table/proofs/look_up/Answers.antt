@@ -1,5 +1,4 @@
 -- `by_table::look_up` meets its contract. Assumes nothing.
-use Rattle.std.proofs.Common.{rules}
 use native.Mathlib.Nat.{div-one}
 use Rattle.laws.specs.Digits.{digits, groups}
 use Rattle.laws.specs.Layout.{field}
