@@ -14,6 +14,7 @@ sort_of f s =
     (cond (eqb f 13 && is_digit s) Behind
     (cond (eqb f 15) End Other))))
 
+-- two sorts are the same
 abbrev pub same_sort : Sort → Sort → Bool
 same_sort Digits Digits = true
 same_sort Start Start = true
