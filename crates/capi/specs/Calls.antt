@@ -66,7 +66,8 @@ pub record CDecodes (s : List ℕ) (number : ℕ) (numbers : List ℕ) : Type 0 
   pub answers : Decodes s (record { number = number; numbers = numbers_of numbers })
   pub nine : length numbers ≡ 9
 
--- the list is the door's own: an entry is a number and nine numbers in 01's order, in C too
+-- the list is the door's own: an entry lies in memory as its structs are declared, number first and then the nine in 01's order. No record says that
+-- order; `tests/words` holds the declarations to it
 pub record CDecodesByTable (bytes : List ℕ) (before after : List Decoded) (number : ℕ) : Type 0 where
   pub answers : DecodesByTable bytes before after number
 

@@ -121,8 +121,11 @@ two-readers = record {
   one_string = λ s l r e before after number h d.
       let a = all-read (string-alone s l) h d.reads in (a.0, rw (one-alone s r e d.answers a.1) at d.left);
   each_string = each_string;
-  has_strings = λ bytes z.
-      let a = are_strings bytes (length bytes / 25) (omega arith) in (cut_from bytes 0 (length bytes / 25), a, omega (arith, (strings-are a).0));
+  has_strings = λ bytes. (
+    λ z. (cut_from bytes 0 (length bytes / 25), are_strings bytes (length bytes / 25) (whole bytes z)),
+    λ x. let l = (strings-are x.1).0 in omega (arith, l),
+  );
+  how_many = λ bytes strings a. let l = (strings-are a).0 in omega (arith, l);
   only_strings = λ bytes strings others a b. one_list a b;
   left_over = λ bytes h before after number d r e. (refused_17 h d.reads, left_17 bytes h r e);
   too_short = λ bytes z before after number h d. refused_3 z h d.reads;

@@ -570,10 +570,11 @@ pub record TwoReaders : Type 0 where
   -- and each of many strings: its entry is what the first reader answers of it
   pub each_string : (bytes : List ℕ) (strings : List (List ℕ)) → AreStrings bytes strings → (before after : List Decoded) → DecodesByTable bytes before after 0
       → (i : ℕ) → i < length strings → (r : Decoded) → Decodes (get_or strings i []) r → get_or after i no_answer ≡ r
-  -- bytes are strings of 25 exactly where none are left over, and of one list alone
-  pub has_strings : (bytes : List ℕ) → length bytes % 25 ≡ 0 → (strings : List (List ℕ)) × AreStrings bytes strings × (length strings ≡ length bytes / 25)
+  -- bytes are strings of 25 exactly where none are left over, so many as 25 goes into them, and of one list alone
+  pub has_strings : (bytes : List ℕ) → (length bytes % 25 ≡ 0) ↔ ((strings : List (List ℕ)) × AreStrings bytes strings)
+  pub how_many : (bytes : List ℕ) (strings : List (List ℕ)) → AreStrings bytes strings → length strings ≡ length bytes / 25
   pub only_strings : (bytes : List ℕ) (strings others : List (List ℕ)) → AreStrings bytes strings → AreStrings bytes others → strings ≡ others
-  -- where bytes are left over both readers refuse them with 17, and of one string that is any length under 50 but 25
+  -- where bytes are left over both readers refuse them with 17
   pub left_over : (bytes : List ℕ) → (length bytes % 25 ≡ 0 → ⊥) → (before after : List Decoded) (number : ℕ) → DecodesByTable bytes before after number
       → (r : Decoded) → Decodes bytes r → (number ≡ number_of BadFascn) × (r.number ≡ number_of BadFascn)
   -- then 3 for a list that is too short, and else 0
